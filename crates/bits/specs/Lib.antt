@@ -1,0 +1,5 @@
+pub mod Bit
+pub mod Range
+pub mod Sum
+pub mod Word
+pub mod Fixed

@@ -1,0 +1,9 @@
+-- Text as the bytes of its ASCII letters.
+use mathlib.Core.List.{List, [] as []ᴸ, _∷_ as _∷ᴸ_}
+use Prim.Native.Char.{Char, code}
+use Prim.Native.Nat.{ℕ}
+use Prim.Native.String.{String, [], _∷_}
+
+unfoldable pub ascii : String → List ℕ
+ascii [] = []ᴸ
+ascii (c ∷ s) = code c ∷ᴸ ascii s

@@ -1,0 +1,15 @@
+pub mod Ascii
+pub mod Limits
+pub mod Outcome
+pub mod Table
+pub mod Coefficient
+pub mod Polynomial
+pub mod Monomial
+pub mod Tree
+pub mod Form
+pub mod Cleanup
+pub mod Record
+pub mod Machine
+pub mod Calls
+pub mod Console
+pub mod Text

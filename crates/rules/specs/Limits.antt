@@ -1,0 +1,61 @@
+-- The limits of document 01 and the numbers of its refusals, each named once.
+use Prim.Native.Nat.{ℕ}
+
+-- "above 16 (transform, way back, listing); above 6 (all others)"
+abbrev pub formFlags : ℕ
+formFlags = 16
+
+abbrev pub ruleFlags : ℕ
+ruleFlags = 6
+
+-- "It is well formed if it has 1 to 385 records"
+abbrev pub recordLimit : ℕ
+recordLimit = 385
+
+-- "963 bytes always suffice."
+abbrev pub byteLimit : ℕ
+byteLimit = 963
+
+-- "only bit 0 of the first 2^n counts"; "coefficient m is bit m mod 64 of word m div 64"
+abbrev pub wordBits : ℕ
+wordBits = 64
+
+-- "Refusals by place of check": the column "No.", by the condition.
+abbrev pub tooManyFlags : ℕ
+tooManyFlags = 1
+
+abbrev pub shortTable : ℕ
+shortTable = 2
+
+abbrev pub shortCoefficients : ℕ
+shortCoefficients = 3
+
+abbrev pub strayCoefficient : ℕ
+strayCoefficient = 4
+
+abbrev pub shortOutput : ℕ
+shortOutput = 5
+
+abbrev pub badMark : ℕ
+badMark = 6
+
+abbrev pub badPayload : ℕ
+badPayload = 7
+
+abbrev pub fewOperands : ℕ
+fewOperands = 8
+
+abbrev pub manyRecords : ℕ
+manyRecords = 9
+
+abbrev pub badEnd : ℕ
+badEnd = 10
+
+abbrev pub badSetting : ℕ
+badSetting = 11
+
+abbrev pub differs : ℕ
+differs = 12
+
+abbrev pub tooCostly : ℕ
+tooCostly = 13
