@@ -1,8 +1,10 @@
 pub mod Truth
+pub mod Bit
+pub mod Shift
+pub mod Mask
 pub mod Range
 pub mod Ascending
 pub mod Sum
 pub mod Fixed
-pub mod Bit
-pub mod Mask
 pub mod Lowest
+pub mod Word

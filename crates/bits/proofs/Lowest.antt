@@ -2,19 +2,21 @@
 -- It rests on the laws of bits and masks (Bit, Mask) and on lib.Count. Assumes nothing.
 --   trailing-lt, bit-trailing, below-trailing  == the place is in the word, the bit there is set, and those below it are not
 --   clear-lowest, bit-clear, clear-lt          == w & (w - 1) is w less that power of two, hence w without that bit, and less than w
+--   clear-above                                == what is left stands above the place
 --   ones-clear                                 == it has one member fewer
 use mathlib.Core.Path.{_≡_, refl, sym, ap, ap₂, _∙_}
-use mathlib.Core.Bool.{Bool, true, false, not, _&&_}
+use mathlib.Core.Bool.{Bool, true, false, not, _&&_, false≢true}
 use mathlib.Core.Logic.{_⊎_, inl, inr}
 use Prim.Native.Nat.{ℕ, zero, suc, suc-le-suc, _+_, _-_, _*_, _/_, _%_, _^_, _≤_, _<_}
 use native.Mathlib.Nat.{eq-zero-or-pos, le-refl, le-of-lt, lt-trans, add-zero, mul-assoc, pow-suc, mod-self}
 use native.Mathlib.Omega.{arith}
-use lib.Dec.{eqb}
+use lib.Dec.{eqb, ltb}
 use lib.Bits.{bitAnd, and-self, and-block, and-mask}
 use lib.Count.{ones, trailingZeros, under}
 use lib.Pow.{pow-pos, pow-lt, ones-lt}
-use borrow.Author.Tests.{eq-eqb, ne-eqb}
+use borrow.Author.Tests.{eqb-false, eq-eqb, ne-eqb, ltb-true, ltb-false, not-true}
 use Rattle.bits.specs.Bit.{bit, within}
+use Rattle.bits.proofs.Truth.{and-true-l, and-true-r, decide}
 use Rattle.bits.proofs.Bit.{bit-low, bit-pow}
 use Rattle.bits.proofs.Mask.{within-pow, bit-sub, ones-sub, ones-pow}
 
@@ -87,6 +89,16 @@ module _ (k w : ℕ) (p : 0 < w) (h : w < 2 ^ k) where
   bit-clear i =
       ap (λ (x : ℕ). bit x i) clear-lowest ∙ bit-sub (2 ^ trailingZeros k w) w i part
       ∙ ap (λ (b : Bool). bit w i && not b) (bit-pow (trailingZeros k w) i)
+
+  pub clear-above : (i : ℕ) → bit (bitAnd w (w - 1)) i ≡ true → trailingZeros k w < i
+  clear-above i e =
+      let t = trailingZeros k w in
+      let both = sym (bit-clear i) ∙ e in
+      let other = eqb-false i t (not-true (eqb i t) (and-true-r (bit w i) (not (eqb i t)) both)) in
+      elim (decide (ltb i t)) [
+        | inl l ↦ absurd (false≢true (sym (below-trailing i (ltb-true i t l)) ∙ and-true-l (bit w i) (not (eqb i t)) both))
+        | inr l ↦ omega (arith, ltb-false i t l)
+      ]
 
   pub ones-clear : ones w ≡ suc (ones (bitAnd w (w - 1)))
   ones-clear =

@@ -1,19 +1,22 @@
 -- Masks as sets: a number stands for the set of its bits, `within` is inclusion and `ones` the size.
--- It rests on the laws of bits (Bit), of truth values (Truth) and on lib.Bits and lib.Count. Assumes nothing.
---   within-bit, bits-within, not-within              == inclusion by members, and a member that is missing
---   within-le, within-zero, zero-within              == a part is no greater; nothing is in all, and only nothing is in nothing
---   within-refl, within-trans, within-antisym        == an order
---   within-block, within-pow                         == two runs of digits apart; one member
---   within-or, within-and                            == a union within, and within an intersection
---   sub-xor, bit-sub, sub-disjoint                   == what a part leaves of the whole
---   bit-add, within-add, within-split                == sets with no common member add
---   ones-add, ones-sub, ones-within                  == sizes add, and a part has no more members
---   ones-zero, ones-pos, ones-pow, one-is-pow        == sizes 0 and 1
+-- It rests on the laws of bits (Bit), of truth values (Truth), and on lib.Bits and lib.Count. Assumes nothing.
+--   within-bit, bits-within, not-within                  == inclusion by members, and a member that is missing
+--   within-le, within-zero, zero-within                  == a part is no greater; nothing is in all, and only nothing is in nothing
+--   within-refl, within-trans, within-antisym            == an order
+--   within-block                                         == two runs of digits apart
+--   within-pow, and-pow                                  == one member
+--   within-or-l, within-or-r, within-and-l, within-and-r == what a union and an intersection hold
+--   within-or, within-and                                == a union within, and within an intersection
+--   sub-xor, bit-sub, sub-disjoint                       == what a part leaves of the whole
+--   bit-add, within-add, within-split                    == sets with no common member add
+--   ones-add, ones-sub, ones-within                      == sizes add, and a part has no more members
+--   ones-zero, ones-pos, ones-pow, one-is-pow            == sizes 0 and 1
 use mathlib.Core.Path.{_≡_, refl, sym, ap, ap₂, _∙_}
 use mathlib.Core.Bool.{Bool, true, false, not, _&&_, _||_, false≢true}
 use mathlib.Core.Logic.{_⊎_, inl, inr}
-use Prim.Native.Nat.{ℕ, zero, suc, _+_, _-_, _*_, _/_, _%_, _^_, _≤_, _<_}
-use native.Mathlib.Nat.{le-antisymm, lt-of-le-of-lt, eq-zero-or-pos, zero-add, add-zero, one-mul, pow-suc}
+use mathlib.Mathlib.Data.Bool.Basic.{eq-false-of-not-eq-true}
+use Prim.Native.Nat.{ℕ, suc, _+_, _-_, _*_, _/_, _%_, _^_, _≤_, _<_}
+use native.Mathlib.Nat.{le-antisymm, lt-of-le-of-lt, eq-zero-or-pos, zero-add, add-zero, zero-mul, one-mul, pow-suc}
 use native.Mathlib.Omega.{arith}
 use lib.Dec.{eqb}
 use lib.Arith.{bin-ind}
@@ -21,7 +24,7 @@ use lib.Bits.{bitAnd, bitOr, bitXor, and-self, and-comm, and-le-l, and-le-r, and
 use lib.Count.{ones, ones-step, ones-cat}
 use lib.Pow.{pow-pos, high, low}
 use borrow.Author.Tests.{eqb-true, eqb-false, eq-eqb}
-use Rattle.bits.specs.Bit.{bit, within, _⊕_}
+use Rattle.bits.specs.Bit.{bit, digit, within, _⊕_}
 use Rattle.bits.proofs.Truth.{and-intro, and-true-l, and-true-r, bool-ext}
 use Rattle.bits.proofs.Bit.{bit-and, bit-or, bit-xor, bit-zero, bit-pow, bits-eq, nonzero-bit, lt-pow}
 
@@ -85,26 +88,47 @@ within-antisym s m h k = le-antisymm (within-le s m h) (within-le m s k)
 
 -- ---- inclusion and the operations
 
+-- two numbers of two parts are equal where both parts are
+parts : (k a b r s : ℕ) → r < 2 ^ k → s < 2 ^ k → eqb (a * 2 ^ k + r) (b * 2 ^ k + s) ≡ (eqb a b && eqb r s)
+parts k a b r s hr hs = bool-ext _ _ apart together
+  where
+    apart : eqb (a * 2 ^ k + r) (b * 2 ^ k + s) ≡ true → (eqb a b && eqb r s) ≡ true
+    apart e =
+        let q = eqb-true (a * 2 ^ k + r) (b * 2 ^ k + s) e in
+        let up : a ≡ b = sym (high a k hr) ∙ ap (λ (x : ℕ). x / 2 ^ k) q ∙ high b k hs in
+        let lo : r ≡ s = sym (low a k hr) ∙ ap (λ (x : ℕ). x % 2 ^ k) q ∙ low b k hs in
+        and-intro _ _ (eq-eqb a b up) (eq-eqb r s lo)
+
+    together : (eqb a b && eqb r s) ≡ true → eqb (a * 2 ^ k + r) (b * 2 ^ k + s) ≡ true
+    together e =
+        let up = eqb-true a b (and-true-l (eqb a b) (eqb r s) e) in
+        let lo = eqb-true r s (and-true-r (eqb a b) (eqb r s) e) in
+        eq-eqb (a * 2 ^ k + r) (b * 2 ^ k + s) (ap₂ (λ (x y : ℕ). x * 2 ^ k + y) up lo)
+
 pub within-block : (k a b r s : ℕ) → r < 2 ^ k → s < 2 ^ k → within (a * 2 ^ k + r) (b * 2 ^ k + s) ≡ (within a b && within r s)
 unfolding within
 within-block k a b r s hr hs =
-    let lt = lt-of-le-of-lt (and-le-l r s) hr in
-    ap (λ (x : ℕ). eqb x (a * 2 ^ k + r)) (and-block k a b r s hr hs)
-    ∙ bool-ext (eqb (bitAnd a b * 2 ^ k + bitAnd r s) (a * 2 ^ k + r)) (eqb (bitAnd a b) a && eqb (bitAnd r s) r)
-    (λ e. let q = eqb-true (bitAnd a b * 2 ^ k + bitAnd r s) (a * 2 ^ k + r) e in
-    and-intro (eqb (bitAnd a b) a) (eqb (bitAnd r s) r)
-    (eq-eqb (bitAnd a b) a (sym (high (bitAnd a b) k lt) ∙ ap (λ (x : ℕ). x / 2 ^ k) q ∙ high a k hr))
-    (eq-eqb (bitAnd r s) r (sym (low (bitAnd a b) k lt) ∙ ap (λ (x : ℕ). x % 2 ^ k) q ∙ low a k hr)))
-    (λ e. eq-eqb (bitAnd a b * 2 ^ k + bitAnd r s) (a * 2 ^ k + r)
-    (ap₂ (λ (x y : ℕ). x * 2 ^ k + y)
-    (eqb-true (bitAnd a b) a (and-true-l (eqb (bitAnd a b) a) (eqb (bitAnd r s) r) e))
-    (eqb-true (bitAnd r s) r (and-true-r (eqb (bitAnd a b) a) (eqb (bitAnd r s) r) e))))
+    ap (λ (x : ℕ). eqb x (a * 2 ^ k + r)) (and-block k a b r s hr hs) ∙ parts k (bitAnd a b) a (bitAnd r s) r (lt-of-le-of-lt (and-le-l r s) hr) hr
 
-pub within-pow : (k m : ℕ) → within (2 ^ k) m ≡ bit m k
-within-pow k m =
-    bool-ext (within (2 ^ k) m) (bit m k)
-    (λ h. within-bit (2 ^ k) m k h (bit-pow k k ∙ eq-eqb k k refl))
-    (λ h. bits-within (2 ^ k) m (λ i e. ap (bit m) (eqb-true i k (sym (bit-pow k i) ∙ e)) ∙ h))
+module _ (k m : ℕ) where
+  one-bit : (i : ℕ) → bit (2 ^ k) i ≡ true → i ≡ k
+  one-bit i e = eqb-true i k (sym (bit-pow k i) ∙ e)
+
+  pub within-pow : within (2 ^ k) m ≡ bit m k
+  within-pow =
+      bool-ext _ _ (λ h. within-bit (2 ^ k) m k h (bit-pow k k ∙ eq-eqb k k refl)) (λ h. bits-within (2 ^ k) m (λ i e. ap (bit m) (one-bit i e) ∙ h))
+
+  -- `m & (1 << k)`
+  pub and-pow : bitAnd (2 ^ k) m ≡ digit (bit m k) * 2 ^ k
+  and-pow = go (bit m k) refl
+    where
+      out : bit m k ≡ false → (i : ℕ) → (bit (2 ^ k) i && bit m i) ≡ false
+      out e i = eq-false-of-not-eq-true (λ h.
+          false≢true (sym e ∙ ap (bit m) (sym (one-bit i (and-true-l (bit (2 ^ k) i) (bit m i) h))) ∙ and-true-r (bit (2 ^ k) i) (bit m i) h))
+
+      go : (b : Bool) → bit m k ≡ b → bitAnd (2 ^ k) m ≡ digit b * 2 ^ k
+      go true e = meet (2 ^ k) m (within-pow ∙ e) ∙ sym (one-mul (2 ^ k))
+      go false e = bits-eq (bitAnd (2 ^ k) m) 0 (λ i. bit-and (2 ^ k) m i ∙ out e i ∙ sym (bit-zero i)) ∙ sym (zero-mul (2 ^ k))
 
 or-left : (p q : Bool) → p ≡ true → (p || q) ≡ true
 or-left true q e = refl
@@ -118,23 +142,42 @@ or-cases : (p q r : Bool) → (p ≡ true → r ≡ true) → (q ≡ true → r 
 or-cases true q r f g e = f refl
 or-cases false q r f g e = g e
 
+module _ (a b : ℕ) where
+  pub within-or-l : within a (bitOr a b) ≡ true
+  within-or-l = bits-within a (bitOr a b) (λ i e. bit-or a b i ∙ or-left (bit a i) (bit b i) e)
+
+  pub within-or-r : within b (bitOr a b) ≡ true
+  within-or-r = bits-within b (bitOr a b) (λ i e. bit-or a b i ∙ or-right (bit a i) (bit b i) e)
+
+  pub within-and-l : within (bitAnd a b) a ≡ true
+  within-and-l = bits-within (bitAnd a b) a (λ i e. and-true-l (bit a i) (bit b i) (sym (bit-and a b i) ∙ e))
+
+  pub within-and-r : within (bitAnd a b) b ≡ true
+  within-and-r = bits-within (bitAnd a b) b (λ i e. and-true-r (bit a i) (bit b i) (sym (bit-and a b i) ∙ e))
+
 pub within-or : (a b m : ℕ) → within (bitOr a b) m ≡ (within a m && within b m)
-within-or a b m =
-    bool-ext (within (bitOr a b) m) (within a m && within b m)
-    (λ h. and-intro (within a m) (within b m)
-    (bits-within a m (λ i e. within-bit (bitOr a b) m i h (bit-or a b i ∙ or-left (bit a i) (bit b i) e)))
-    (bits-within b m (λ i e. within-bit (bitOr a b) m i h (bit-or a b i ∙ or-right (bit a i) (bit b i) e))))
-    (λ h. bits-within (bitOr a b) m (λ i e. or-cases (bit a i) (bit b i) (bit m i)
-    (within-bit a m i (and-true-l (within a m) (within b m) h)) (within-bit b m i (and-true-r (within a m) (within b m) h)) (sym (bit-or a b i) ∙ e)))
+within-or a b m = bool-ext _ _ apart together
+  where
+    apart : within (bitOr a b) m ≡ true → (within a m && within b m) ≡ true
+    apart h = and-intro _ _ (within-trans a (bitOr a b) m (within-or-l a b) h) (within-trans b (bitOr a b) m (within-or-r a b) h)
+
+    together : (within a m && within b m) ≡ true → within (bitOr a b) m ≡ true
+    together h =
+        let f = and-true-l (within a m) (within b m) h in
+        let g = and-true-r (within a m) (within b m) h in
+        bits-within (bitOr a b) m (λ i e. or-cases (bit a i) (bit b i) (bit m i) (within-bit a m i f) (within-bit b m i g) (sym (bit-or a b i) ∙ e))
 
 pub within-and : (s a b : ℕ) → within s (bitAnd a b) ≡ (within s a && within s b)
-within-and s a b =
-    bool-ext (within s (bitAnd a b)) (within s a && within s b)
-    (λ h. let both : (i : ℕ) → bit s i ≡ true → (bit a i && bit b i) ≡ true = λ i e. sym (bit-and a b i) ∙ within-bit s (bitAnd a b) i h e in
-    and-intro (within s a) (within s b)
-    (bits-within s a (λ i e. and-true-l (bit a i) (bit b i) (both i e))) (bits-within s b (λ i e. and-true-r (bit a i) (bit b i) (both i e))))
-    (λ h. bits-within s (bitAnd a b) (λ i e. bit-and a b i ∙ and-intro (bit a i) (bit b i)
-    (within-bit s a i (and-true-l (within s a) (within s b) h) e) (within-bit s b i (and-true-r (within s a) (within s b) h) e)))
+within-and s a b = bool-ext _ _ apart together
+  where
+    apart : within s (bitAnd a b) ≡ true → (within s a && within s b) ≡ true
+    apart h = and-intro _ _ (within-trans s (bitAnd a b) a h (within-and-l a b)) (within-trans s (bitAnd a b) b h (within-and-r a b))
+
+    together : (within s a && within s b) ≡ true → within s (bitAnd a b) ≡ true
+    together h =
+        let f = and-true-l (within s a) (within s b) h in
+        let g = and-true-r (within s a) (within s b) h in
+        bits-within s (bitAnd a b) (λ i e. bit-and a b i ∙ and-intro _ _ (within-bit s a i f e) (within-bit s b i g e))
 
 pub sub-xor : (c m : ℕ) → within c m ≡ true → m - c ≡ bitXor m c
 sub-xor c m h = omega (arith, xor-add-and m c, and-comm m c, meet c m h, within-le c m h)
@@ -174,14 +217,14 @@ within-split c m s h =
 
 pub ones-add : (a b : ℕ) → bitAnd a b ≡ 0 → ones (a + b) ≡ ones a + ones b
 unfolding ones
-ones-add =
-    bin-ind (λ (a : ℕ). (b : ℕ) → bitAnd a b ≡ 0 → ones (a + b) ≡ ones a + ones b)
-    (λ b e. ap ones (zero-add b) ∙ sym (zero-add (ones b)))
-    (λ a ih b e.
-    let d = and-step a b in
-    let up : bitAnd (a / 2) (b / 2) ≡ 0 = omega arith in
-    let half : (a + b) / 2 ≡ a / 2 + b / 2 = omega arith in
-    omega (arith, ones-step (a + b), ones-step a, ones-step b, ap ones half, ih (b / 2) up))
+ones-add = bin-ind (λ (a : ℕ). (b : ℕ) → bitAnd a b ≡ 0 → ones (a + b) ≡ ones a + ones b) (λ b e. ap ones (zero-add b) ∙ sym (zero-add (ones b))) step
+  where
+    step : (a : ℕ) → ((b : ℕ) → bitAnd (a / 2) b ≡ 0 → ones (a / 2 + b) ≡ ones (a / 2) + ones b) → (b : ℕ) → bitAnd a b ≡ 0 → ones (a + b) ≡ ones a + ones b
+    step a ih b e =
+        let d = and-step a b in
+        let up : bitAnd (a / 2) (b / 2) ≡ 0 = omega arith in
+        let half : (a + b) / 2 ≡ a / 2 + b / 2 = omega arith in
+        omega (arith, ones-step (a + b), ones-step a, ones-step b, ap ones half, ih (b / 2) up)
 
 pub ones-sub : (c m : ℕ) → within c m ≡ true → ones (m - c) + ones c ≡ ones m
 ones-sub c m h =
