@@ -8,3 +8,9 @@ pub mod Sum
 pub mod Fixed
 pub mod Lowest
 pub mod Word
+pub mod Total
+pub mod Below
+pub mod Every
+pub mod First
+pub mod Invariant
+pub mod Places

@@ -17,27 +17,21 @@ use Rattle.bits.specs.Bit.{bit, digit}
 use Rattle.rules.specs.Calls.{withTable, withCoefficients, withRoom, fill, transform, wayBack}
 use Rattle.rules.specs.Coefficient.{coefficient, wordCount, packed, stray, words}
 use Rattle.rules.specs.Limits.{formFlags}
-use Rattle.rules.specs.Outcome.{Outcome, gives, refuse}
+use Rattle.rules.specs.Outcome.{gives}
 use Rattle.rules.specs.Polynomial.{polynomial}
 use Rattle.rules.specs.Table.{settings, entry, complete}
 use Rattle.rules.proofs.Mobius.{coefficient-ext, coefficient-twice}
+use Rattle.rules.proofs.Outcome.{gives-same, refuse-gives}
 use Rattle.rules.proofs.Packed.{length-map-upto, getD-map-upto, map-upto-of, length-words, packed-words, stray-words, words-ext, words-packed}
 use Rattle.rules.proofs.Zhegalkin.{polynomial-coefficient, polynomial-unique}
 
 -- ---- rows
 
-passed : {A : Type 0} (b : Bool) (k p : ℕ) (rest : Outcome A) (a : A) → refuse b k p rest ≡ gives a → (b ≡ false) × (rest ≡ gives a)
-passed true k p rest a e = let z : _≡_ {A = ℕ} 0 1 = cc in absurd (omega arith)
-passed false k p rest a e = (refl, e)
-
-same : {A : Type 0} {a b : A} → _≡_ {A = Outcome A} (gives a) (gives b) → a ≡ b
-same e = cc
-
 fill-gives : (room : ℕ) (l r : List ℕ) → fill room l ≡ gives r → (length l ≤ room) × (r ≡ l)
 unfolding fill withRoom
 fill-gives room l r e =
-    let p = passed (ltb room (length l)) _ _ _ r e in
-    (ltb-false room (length l) (p .0), sym (same (p .1)))
+    let p = refuse-gives (ltb room (length l)) _ _ _ r e in
+    (ltb-false room (length l) (p .0), sym (gives-same (p .1)))
 
 fill-is : (room : ℕ) (l : List ℕ) → length l ≤ room → fill room l ≡ gives l
 unfolding fill withRoom
@@ -55,8 +49,8 @@ module _ (n : ℕ) (table : List ℕ) (room : ℕ) (ws : List ℕ) where
   pub transform-gives : transform n table room ≡ gives ws → Transformed n table room ws
   unfolding transform withTable
   transform-gives e =
-      let p = passed (ltb formFlags n) _ _ _ ws e in
-      let q = passed (not (complete n table)) _ _ _ ws (p .1) in
+      let p = refuse-gives (ltb formFlags n) _ _ _ ws e in
+      let q = refuse-gives (not (complete n table)) _ _ _ ws (p .1) in
       let r = fill-gives room (words n (coefficient n (entry table))) ws (q .1) in
       record {
         flags = ltb-false formFlags n (p .0);
@@ -82,9 +76,9 @@ module _ (n : ℕ) (ws : List ℕ) (room : ℕ) (t : List ℕ) where
   pub wayBack-gives : wayBack n ws room ≡ gives t → Returned n ws room t
   unfolding wayBack withCoefficients
   wayBack-gives e =
-      let p = passed (ltb formFlags n) _ _ _ t e in
-      let q = passed (ltb (length ws) (wordCount n)) _ _ _ t (p .1) in
-      let c = passed (stray n ws) _ _ _ t (q .1) in
+      let p = refuse-gives (ltb formFlags n) _ _ _ t e in
+      let q = refuse-gives (ltb (length ws) (wordCount n)) _ _ _ t (p .1) in
+      let c = refuse-gives (stray n ws) _ _ _ t (q .1) in
       let r = fill-gives room (map (λ s. digit (coefficient n (packed ws) s)) (settings n)) t (c .1) in
       record {
         flags = ltb-false formFlags n (p .0);

@@ -58,5 +58,5 @@ unfoldable pub made : ℕ → List ℕ → Outcome Tree
 made n s = run recordLimit n s 0 []
 
 -- "It is well formed if it has 1 to 385 records, no operator lacks operands, and one operand is left at the end."
-pub WellFormed : ℕ → List ℕ → Type 0
+unfoldable pub WellFormed : ℕ → List ℕ → Type 0
 WellFormed n s = (t : Tree) × (made n s ≡ gives t)

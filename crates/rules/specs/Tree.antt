@@ -1,12 +1,13 @@
 -- Expressions as trees, one constructor a mark, with their value, their costs and the bytes that they are written as.
---   value t s    == the tree's value at the setting s
---   cost t       == `anf_expr_cost`
---   size t       == the number of records
---   depth t      == the longest way from the root to a leaf, in records
---   write t      == the postfix bytes
+--   value t s       == the tree's value at the setting s
+--   cost t          == `anf_expr_cost`
+--   size t          == the number of records
+--   depth t         == the longest way from the root to a leaf, in records
+--   write t         == the postfix bytes
+--   FlagsBelow n t  == every flag that the tree names is below n
 use mathlib.Core.Bool.{Bool, true, false, not, _&&_, _||_}
 use mathlib.Core.List.{List, [], _∷_, _++_}
-use Prim.Native.Nat.{ℕ, _+_, _-_, max}
+use Prim.Native.Nat.{ℕ, _+_, _-_, _<_, max}
 use Rattle.bits.specs.Bit.{_⊕_, bit, digit}
 use Rattle.rules.specs.Ascii.{ascii}
 
@@ -72,3 +73,12 @@ write (AN x y) = write x ++ write y ++ ascii "AN"
 write (OR x y) = write x ++ write y ++ ascii "OR"
 write (XO x y) = write x ++ write y ++ ascii "XO"
 write (NO x) = write x ++ ascii "NO"
+
+-- "index n or more" never stands in the tree
+abbrev pub FlagsBelow : ℕ → Tree → Type 0
+FlagsBelow n (CO b) = Unit
+FlagsBelow n (VA i) = i < n
+FlagsBelow n (AN x y) = FlagsBelow n x × FlagsBelow n y
+FlagsBelow n (OR x y) = FlagsBelow n x × FlagsBelow n y
+FlagsBelow n (XO x y) = FlagsBelow n x × FlagsBelow n y
+FlagsBelow n (NO x) = FlagsBelow n x

@@ -1,5 +1,40 @@
 // Document 01 as mathematics: specs/ has every definition that a promise cites, each beside the sentence that it renders, and proofs/ computes
-// the document's own examples with them. The only code is the refusal that every call's answer can hold. It rests on `bits`.
+// the document's own examples with them. The only code is what every call shares: the limits, and the refusal that an answer can hold. It rests
+// on `bits`.
+
+// Limits: flags of a form (transform, way back, listing) and of a rule (all other calls), and the records of an expression.
+pub const FORM_FLAGS: usize = 16;
+
+pub const RULE_FLAGS: usize = 6;
+
+pub const RECORD_LIMIT: usize = 385;
+
+// The numbers of the refusals, in the order of document 01's table.
+pub const TOO_MANY_FLAGS: u64 = 1;
+
+pub const SHORT_TABLE: u64 = 2;
+
+pub const SHORT_COEFFICIENTS: u64 = 3;
+
+pub const STRAY_COEFFICIENT: u64 = 4;
+
+pub const BAD_SETTING: u64 = 11;
+
+pub const MANY_RECORDS: u64 = 9;
+
+pub const BAD_MARK: u64 = 6;
+
+pub const BAD_PAYLOAD: u64 = 7;
+
+pub const FEW_OPERANDS: u64 = 8;
+
+pub const BAD_END: u64 = 10;
+
+pub const DIFFERS: u64 = 12;
+
+pub const TOO_COSTLY: u64 = 13;
+
+pub const SHORT_OUTPUT: u64 = 5;
 
 // A refusal: the number by which document 01 knows its condition, and the place it gives.
 pub struct Refusal {

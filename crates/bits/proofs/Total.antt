@@ -1,0 +1,48 @@
+-- Laws of totals, the sums of numbers: bounds by members, and one more for each element. They rest on the laws of sums and of choices
+-- (Sum, Range). Assumes nothing.
+--   total-suc, total-const          == one more for each element; the same for each
+--   total-mem, total-two            == one member's part, and that of two different members
+--   total-le                        == order, member by member
+use mathlib.Core.Bool.{true, not, false≢true}
+use mathlib.Core.List.{List, [], _∷_}
+use mathlib.Core.Logic.{inl, inr}
+use mathlib.Core.Path.{_≡_, refl, sym, ap, _∙_}
+use Prim.Native.Nat.{ℕ, suc, _+_, _*_, _≤_}
+use native.Mathlib.Nat.{add-le-add, zero-mul, suc-mul, le-refl}
+use native.Mathlib.Omega.{arith}
+use lib.Dec.{eqb}
+use lib.ListN.{length}
+use borrow.Author.Tests.{eq-eqb, ne-eqb}
+use Rattle.bits.specs.Range.{keep, any, mem}
+use Rattle.bits.specs.Sum.{sum, total}
+use Rattle.bits.proofs.Truth.{and-intro}
+use Rattle.bits.proofs.Range.{mem-head, mem-tail, mem-cons, mem-keep}
+use Rattle.bits.proofs.Sum.{plus-laws, sum-split}
+
+module _ {A : Type 0} (f : A → ℕ) where
+  pub total-suc : (l : List A) → total (λ x. suc (f x)) l ≡ total f l + length l
+  unfolding sum
+  total-suc [] = refl
+  total-suc (x ∷ l) = omega (arith, total-suc l)
+
+pub total-const : {A : Type 0} (c : ℕ) (l : List A) → total (λ x. c) l ≡ length l * c
+unfolding sum
+total-const c [] = sym (zero-mul c)
+total-const c (x ∷ l) = omega (arith, total-const c l, suc-mul (length l) c)
+
+module _ (f : ℕ → ℕ) where
+  pub total-mem : (l : List ℕ) (x : ℕ) → mem x l ≡ true → f x ≤ total f l
+  unfolding sum any
+  total-mem [] x m = absurd (false≢true m)
+  total-mem (y ∷ l) x m = elim (mem-cons y l x m) [ inl e ↦ omega (arith, ap f e) | inr r ↦ omega (arith, total-mem l x r) ]
+
+  pub total-two : (l : List ℕ) (x y : ℕ) → mem x l ≡ true → mem y l ≡ true → (x ≡ y → ⊥) → f x + f y ≤ total f l
+  total-two l x y m n d =
+      let h = total-mem (keep (eqb x) l) x (mem-keep (eqb x) l x ∙ and-intro _ _ m (eq-eqb x x refl)) in
+      let k = total-mem (keep (λ z. not (eqb x z)) l) y (mem-keep (λ z. not (eqb x z)) l y ∙ and-intro _ _ n (ap not (ne-eqb x y d))) in
+      omega (arith, sum-split plus-laws f (eqb x) l)
+
+  pub total-le : (g : ℕ → ℕ) (l : List ℕ) → ((x : ℕ) → mem x l ≡ true → f x ≤ g x) → total f l ≤ total g l
+  unfolding sum
+  total-le g [] h = le-refl 0
+  total-le g (x ∷ l) h = add-le-add (h x (mem-head x l)) (total-le g l (λ y m. h y (mem-tail x l y m)))

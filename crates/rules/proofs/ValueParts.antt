@@ -1,0 +1,108 @@
+-- The values of the parts that the cleanup puts together: products, OR chains, balanced folds, raw forms, and a constant on top.
+-- It rests on the laws of masks and of sums (bits), on the induction over parts (Parts), on the polynomial's products (Zhegalkin) and on the monomial
+-- order (Ordered). Assumes nothing.
+--   value-cube, value-orChain   == a product is 1 where the setting has all flags of the mask, an OR chain where it has one of them
+--   value-folded, value-rawForm == a balanced fold is the parity of its terms, a raw form that of the masks within the setting
+--   value-atop                  == a constant on top
+use mathlib.Core.Bool.{Bool, true, false, _&&_, _||_, and-true, or-false}
+use mathlib.Core.List.{List, [], _∷_, _++_, map}
+use mathlib.Core.Path.{_≡_, refl, sym, ap, ap₂, _∙_}
+use Prim.Native.Nat.{ℕ, _^_, _<_}
+use native.Mathlib.Omega.{arith}
+use lib.Bits.{bitAnd}
+use lib.Dec.{ltb}
+use lib.Pow.{pow-pos}
+use borrow.Author.Tests.{ltb-true, lt-ltb}
+use Rattle.bits.specs.Bit.{_⊕_, bit, within}
+use Rattle.bits.specs.Range.{all, any}
+use Rattle.bits.specs.Sum.{sum, parity}
+use Rattle.bits.proofs.Truth.{and-intro, and-true-l, and-true-r, bool-ext, xor-false}
+use Rattle.bits.proofs.Bit.{bit-and, bit-lt, lt-pow, nonzero-bit}
+use Rattle.bits.proofs.Mask.{within-le, within-pow}
+use Rattle.bits.proofs.Range.{all-map, any-map, all-append, any-append, any-mem, mem-any}
+use Rattle.bits.proofs.Sum.{xor-laws, sum-map, sum-ext, sum-append}
+use Rattle.bits.proofs.Word.{mem-places}
+use Rattle.rules.specs.Cleanup.{atop}
+use Rattle.rules.specs.Form.{flags, chain, cube, orChain, folded, rawForm}
+use Rattle.rules.specs.Monomial.{ordered}
+use Rattle.rules.specs.Polynomial.{product}
+use Rattle.rules.specs.Tree.{Tree, CO, VA, AN, OR, XO, value}
+use Rattle.rules.proofs.Ordered.{sum-ordered}
+use Rattle.rules.proofs.Parts.{chain-ind, folded-none, folded-ind}
+use Rattle.rules.proofs.Zhegalkin.{product-within}
+
+-- ---- terms joined by an operation
+
+module _ (s : ℕ) (op : Tree → Tree → Tree) (op₂ : Bool → Bool → Bool) (fold : List Tree → Bool)
+    (at : (x y : Tree) → value (op x y) s ≡ op₂ (value x s) (value y s)) (one : (t : Tree) → value t s ≡ fold (t ∷ []))
+    (append : (ss ts : List Tree) → fold (ss ++ ts) ≡ op₂ (fold ss) (fold ts)) where
+  joined : (ss ts : List Tree) (x y : Tree) → value x s ≡ fold ss → value y s ≡ fold ts → value (op x y) s ≡ fold (ss ++ ts)
+  joined ss ts x y h k = at x y ∙ ap₂ op₂ h k ∙ sym (append ss ts)
+
+  value-chain : (empty : Tree) → value empty s ≡ fold [] → (ts : List Tree) → value (chain op empty ts) s ≡ fold ts
+  unfolding chain
+  value-chain empty e [] = e
+  value-chain empty e (t ∷ ts) =
+      chain-ind (λ us u. value u s ≡ fold us) one op empty (λ us x u h. joined us (u ∷ []) x u h (one u)) t ts
+
+-- ---- products and OR chains
+
+pub value-cube : (m s : ℕ) → value (cube m) s ≡ within m s
+unfolding value all product
+value-cube m s =
+    let f : Tree → Bool = λ t. value t s in
+    value-chain s AN _&&_ (all f) (λ x y. refl) (λ t. sym (and-true (f t))) (all-append f) (CO true) refl (map VA (flags m))
+    ∙ all-map f VA (flags m) ∙ product-within m m s (lt-pow m)
+
+set-pos : (w i : ℕ) → bit w i ≡ true → 0 < w
+set-pos w i e = omega (arith, within-le (2 ^ i) w (within-pow i w ∙ e), pow-pos i)
+
+any-flag : (m s : ℕ) → any (bit s) (flags m) ≡ ltb 0 (bitAnd m s)
+any-flag m s = bool-ext _ _ apart together
+  where
+    apart : any (bit s) (flags m) ≡ true → ltb 0 (bitAnd m s) ≡ true
+    apart h =
+        let t = any-mem (bit s) (flags m) h in
+        let i = t .0 in
+        lt-ltb 0 (bitAnd m s) (set-pos (bitAnd m s) i
+        (bit-and m s i ∙ and-intro _ _ (and-true-r (ltb i m) (bit m i) (sym (mem-places m m i) ∙ t .1)) (t .2)))
+
+    together : ltb 0 (bitAnd m s) ≡ true → any (bit s) (flags m) ≡ true
+    together h =
+        let w = bitAnd m s in
+        let t = nonzero-bit w w (lt-pow w) (ltb-true 0 w h) in
+        let i = t .0 in
+        let both : (bit m i && bit s i) ≡ true = sym (bit-and m s i) ∙ t .2 in
+        let here = and-true-l (bit m i) (bit s i) both in
+        mem-any (bit s) (flags m) i (mem-places m m i ∙ and-intro _ _ (lt-ltb i m (bit-lt m m i (lt-pow m) here)) here)
+        (and-true-r (bit m i) (bit s i) both)
+
+pub value-orChain : (m s : ℕ) → value (orChain m) s ≡ ltb 0 (bitAnd m s)
+unfolding value any
+value-orChain m s =
+    let f : Tree → Bool = λ t. value t s in
+    value-chain s OR _||_ (any f) (λ x y. refl) (λ t. sym (or-false (f t))) (any-append f) (CO false) refl (map VA (flags m))
+    ∙ any-map f VA (flags m) ∙ any-flag m s
+
+-- ---- the balanced fold and the raw form
+
+pub value-folded : (ts : List Tree) (s : ℕ) → value (folded ts) s ≡ parity (λ t. value t s) ts
+unfolding value sum
+value-folded [] s = ap (λ (t : Tree). value t s) folded-none
+value-folded (t ∷ ts) s =
+    let f : Tree → Bool = λ t. value t s in
+    let one : (u : Tree) → f u ≡ parity f (u ∷ []) = λ u. sym (xor-false (f u)) in
+    folded-ind (λ us u. f u ≡ parity f us) one (joined s XO _⊕_ (parity f) (λ x y. refl) one (sum-append xor-laws f)) t ts
+
+pub value-rawForm : (l : List ℕ) (s : ℕ) → value (rawForm l) s ≡ parity (λ m. within m s) l
+unfolding rawForm
+value-rawForm l s =
+    value-folded (map cube (ordered l)) s
+    ∙ sum-map _⊕_ false (λ t. value t s) cube (ordered l)
+    ∙ sum-ext _⊕_ false _ (λ m. within m s) (ordered l) (λ m. value-cube m s)
+    ∙ sum-ordered xor-laws (λ m. within m s) l
+
+pub value-atop : (b : Bool) (t : Tree) (s : ℕ) → value (atop b t) s ≡ b ⊕ value t s
+unfolding atop value
+value-atop true t s = refl
+value-atop false t s = refl
