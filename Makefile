@@ -18,5 +18,6 @@ print_rule: ## print the expression of a rule table: TABLE=0111
 bench: ## measure beside the original Rust: RUST=folder of its sources
 	@test -d bench || { echo "bench comes with the compiler, which is not here yet"; exit 1; }
 
+
 compare: ## make the recorded answers anew from the original Rust and compare: RUST=folder of its sources
-	@test -d oracle || { echo "compare needs oracle/, which is not here yet"; exit 1; }
+	@oracle/compare.sh "$(RUST)"

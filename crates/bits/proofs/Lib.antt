@@ -14,3 +14,4 @@ pub mod Every
 pub mod First
 pub mod Invariant
 pub mod Places
+pub mod Digits

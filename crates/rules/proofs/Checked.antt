@@ -1,17 +1,32 @@
 -- The rows that several calls share, one by one: what a call answers where a row refuses, and that it goes on where none does.
 -- It rests on the definitions of specs/Calls alone. Assumes nothing.
+--   table-flags, -short, -complete               == rows 1 and 2, and past them
 --   coefficients-flags, -short, -stray, -clean   == rows 1, 3 and 4, and past them
 --   room-short, room-enough                      == row 5, and past it
 use mathlib.Core.Bool.{true, false}
 use mathlib.Core.List.{List}
 use mathlib.Core.Path.{_≡_}
-use Prim.Native.Nat.{ℕ, _≤_, _<_}
+use Prim.Native.Nat.{ℕ, _^_, _≤_, _<_}
 use lib.ListN.{length}
-use borrow.Author.Tests.{lt-ltb, le-ltb}
-use Rattle.rules.specs.Calls.{withCoefficients, withRoom}
+use borrow.Author.Tests.{lt-ltb, le-ltb, lt-leb, le-leb}
+use Rattle.rules.specs.Calls.{withTable, withCoefficients, withRoom}
 use Rattle.rules.specs.Coefficient.{wordCount, stray}
-use Rattle.rules.specs.Limits.{tooManyFlags, shortCoefficients, strayCoefficient, shortOutput}
+use Rattle.rules.specs.Limits.{tooManyFlags, shortTable, shortCoefficients, strayCoefficient, shortOutput}
 use Rattle.rules.specs.Outcome.{Outcome, refuses}
+
+module _ {A : Type 0} (limit n : ℕ) (table : List ℕ) (rest : Outcome A) where
+  pub table-flags : limit < n → withTable limit n table rest ≡ refuses tooManyFlags 0
+  unfolding withTable
+  table-flags h = rw (lt-ltb limit n h)
+
+  module _ (few : n ≤ limit) where
+    pub table-short : length table < 2 ^ n → withTable limit n table rest ≡ refuses shortTable 0
+    unfolding withTable
+    table-short h = rw (le-ltb limit n few, lt-leb (2 ^ n) (length table) h)
+
+    pub table-complete : 2 ^ n ≤ length table → withTable limit n table rest ≡ rest
+    unfolding withTable
+    table-complete h = rw (le-ltb limit n few, le-leb (2 ^ n) (length table) h)
 
 module _ {A : Type 0} (limit n : ℕ) (ws : List ℕ) (rest : Outcome A) where
   pub coefficients-flags : limit < n → withCoefficients limit n ws rest ≡ refuses tooManyFlags 0

@@ -1,0 +1,13 @@
+-- The answer of the transform and of the way back on paper.
+--   told l f     == the outcome that the answer f tells, where l is what the call wrote
+use mathlib.Core.List.{List}
+use Prim.Native.Nat.{ℕ}
+use lib.ListN.{take}
+use Rattle.rules.specs.Outcome.{Outcome, gives, refuses}
+use Rattle.anf_transform.specs.declared.Filled.{Filled}
+use Rattle.anf_transform.specs.declared.Filled.the-variants.{Entries, Refused}
+
+-- `Entries(k)`: the result is the first k entries of the lent buffer as it is left; `Refused`: the refusal's number and place
+abbrev pub told : List ℕ → Filled → Outcome (List ℕ)
+told out (Entries k) = gives (take k out)
+told out (Refused r) = refuses (r .number) (r .place)

@@ -1,0 +1,49 @@
+-- `packed_anf::set` meets its contract: the one that it puts in stands inside the word, so nothing of it is lost.
+-- Assumes nothing.
+use mathlib.Core.Path.{ap}
+use Prim.Native.Nat.{ℕ, _/_, _%_}
+use native.Mathlib.Omega.{arith}
+use borrow.Author.Needs.{needs}
+use lib.Bits.{bitOr}
+use lib.ListN.{getD, set}
+use Rattle.bits.proofs.Shift.{one-shl}
+use Rattle.packed_anf.specs.Raised.{raised}
+use Rattle.packed_anf.proofs.set.Statement.{statement}
+use Rattle.packed_anf.proofs.set.Tie as tie
+
+mul-words : tie.Need-mul-words
+mul-words c = search needs
+
+slice-read-words : tie.Need-slice-read-words
+slice-read-words c = search needs
+
+shl-words : tie.Need-shl-words
+shl-words c = search needs
+
+mul-words-2 : tie.Need-mul-words-2
+mul-words-2 c = search needs
+
+slice-write-words : tie.Need-slice-write-words
+slice-write-words c = search needs
+
+same-length : tie.Need-same-length
+same-length c = search needs
+
+returns : tie.Need-returns
+unfolding raised
+returns c =
+    let m = c .before .args .m in
+    let ws = c .before .args .words .now in
+    ap (λ (x : ℕ). set ws (m / 64) (bitOr (getD ws (m / 64) 0) x)) (one-shl 64 (m % 64) (omega arith))
+
+pub set-spec : {M : Type 1} → statement M
+set-spec =
+    tie.close
+    (tie.spec
+    mul-words
+    slice-read-words
+    shl-words
+    mul-words-2
+    slice-write-words
+    same-length
+    returns)

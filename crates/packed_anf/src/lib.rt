@@ -1,0 +1,59 @@
+// Coefficients of an algebraic normal form in a slice of 64-bit words, after `packed_anf.rs`: coefficient m is bit m mod 64 of word m div 64.
+// It rests on the definitions of `rules`.
+ghost use mathlib.Core.Path.{_≡_};
+ghost use Prim.Native.Nat.{_/_, _%_, _<_, _≤_, _^_};
+ghost use lib.ListN.{length};
+ghost use Rattle.bits.specs.Bit.{digit};
+ghost use Rattle.rules.specs.Coefficient.{wordCount, packed, stray};
+ghost use Rattle.packed_anf.specs.Raised.{raised};
+
+// How many settings that many flags have.
+pub fn setting_count(flags: usize) -> usize
+    requires { ⌜ flags ≤ 16 ⌝ }
+    ensures { λ r. ⌜ r ≡ 2 ^ flags ⌝ }
+{
+    1 << flags
+}
+
+// How many words the coefficients of that many flags take.
+pub fn word_count(flags: usize) -> usize
+    requires { ⌜ flags ≤ 16 ⌝ }
+    ensures { λ r. ⌜ r ≡ wordCount flags ⌝ }
+{
+    (setting_count(flags) + 63) / 64
+}
+
+// Whether a coefficient at 2 ^ flags or above is 1 in the words of that many flags. Only with fewer than six flags is there room for one.
+pub fn is_stray(flags: usize, words: &[u64]) -> bool
+    requires { ⌜ (flags ≤ 16) × (wordCount flags ≤ length (now words)) ⌝ }
+    ensures { λ r. ⌜ r ≡ stray flags (now (words .entry)) ⌝ }
+{
+    if 5 < flags {
+        return false;
+    }
+    low_bits(flags, words[0]) < words[0]
+}
+
+// The first word without coefficients at 2 ^ flags and above.
+pub fn low_bits(flags: usize, first: u64) -> u64
+    requires { ⌜ flags < 6 ⌝ }
+    ensures { λ r. ⌜ r ≡ first % 2 ^ (2 ^ flags) ⌝ }
+{
+    first % (1 << setting_count(flags))
+}
+
+// Coefficient m, as 0 or 1.
+pub fn get(words: &[u64], m: usize) -> u64
+    requires { ⌜ m / 64 < length (now words) ⌝ }
+    ensures { λ r. ⌜ r ≡ digit (packed (now (words .entry)) m) ⌝ }
+{
+    (words[m / 64] >> (m % 64)) & 1
+}
+
+// Coefficient m becomes 1.
+pub fn set(words: &mut [u64], m: usize)
+    requires { ⌜ m / 64 < length (now words) ⌝ }
+    ensures { λ _. ⌜ now (words .exit) ≡ raised (now (words .entry)) m ⌝ }
+{
+    words[m / 64] = words[m / 64] | (1 << (m % 64));
+}

@@ -1,0 +1,53 @@
+#!/bin/sh
+# Makes the recorded files of the replay programs anew in a scratch folder, and compares them byte for byte with those checked in.
+# Use: oracle/compare.sh RUST_DIR. It rests on build.sh, python3 and, for sympy.bin, on sympy, without which that file is skipped.
+# A line for each file, and at the end `N passed, M failed`; the status is 0 where none failed.
+set -eu
+
+rust=${1:-}
+if [ -z "$rust" ]; then
+    echo "compare: say where the original Rust sources are: make compare RUST=DIR, a folder with anf_transform.rs and the files beside it" >&2
+    exit 2
+fi
+if ! command -v python3 >/dev/null 2>&1; then
+    echo "compare: python3 is not installed; it makes the files from print and from sympy" >&2
+    exit 2
+fi
+
+here=$(cd "$(dirname "$0")" && pwd)
+scratch=$(mktemp -d)
+trap 'rm -rf "$scratch"' EXIT
+trap 'exit 1' INT TERM
+passed=0
+failed=0
+
+# One recorded file, made in the scratch folder just before.
+compare() {
+    if cmp -s "$scratch/made/$2" "$here/../crates/$1/data/$2"; then
+        echo "$1/data/$2: same"
+        passed=$((passed + 1))
+    else
+        echo "$1/data/$2: DIFFERS"
+        failed=$((failed + 1))
+    fi
+}
+
+mkdir "$scratch/made"
+"$here/build.sh" "$rust" "$scratch/build"
+
+"$scratch/build/oracle" transforms "$scratch/made"
+compare replay_transforms small.bin
+compare replay_transforms samples.bin
+
+python3 "$here/printed_transforms.py" "$scratch/made"
+compare replay_transforms printed.bin
+
+if python3 -c 'import sympy' >/dev/null 2>&1; then
+    python3 "$here/sympy_transforms.py" "$scratch/made"
+    compare replay_transforms sympy.bin
+else
+    echo "replay_transforms/data/sympy.bin: skipped, python3 has no sympy (Debian's package python3-sympy)"
+fi
+
+echo "$passed passed, $failed failed"
+[ "$failed" -eq 0 ]
