@@ -3,31 +3,34 @@
 --   lacking k                   == the mask whose ones below 64 stand at the places that lack flag k
 --   joinWord k w, bit-join      == one line of the code: the bits of w that lack flag k are XORed into those that have it, which is `along`
 --   joinedWord k w, joined-six  == the k lowest flags in turn; all six make `inWord`
+--   inWord-form                 == the low bits of such a word are a form's coefficients
 --   holds-inside                == words so transformed hold the XOR over subsets for the six lowest flags
 use mathlib.Core.Bool.{Bool, true, false, not, _&&_, and-comm}
 use mathlib.Core.List.{List}
 use mathlib.Core.Path.{_≡_, refl, sym, ap, _∙_}
 use Prim.Native.Nat.{ℕ, zero, suc, _+_, _-_, _*_, _/_, _%_, _^_, _≤_, _<_}
-use native.Mathlib.Nat.{mod-lt}
+use native.Mathlib.Nat.{mod-lt, lt-of-lt-of-le}
 use native.Mathlib.Omega.{arith}
 use lib.Bits.{bitAnd, bitXor, xor-lt}
 use lib.Dec.{ltb}
 use lib.ListN.{length, getD}
-use lib.Pow.{pow-pos}
+use lib.Pow.{pow-pos, pow-mono}
 use borrow.Author.Tests.{ltb-true, ltb-false, lt-ltb, not-true}
 use Rattle.bits.specs.Bit.{_⊕_, bit}
 use Rattle.bits.specs.Range.{from, upto, all}
+use Rattle.bits.specs.Word.{word}
 use Rattle.bits.proofs.Truth.{xor-same}
-use Rattle.bits.proofs.Bit.{bit-and, bit-xor, bit-high}
+use Rattle.bits.proofs.Bit.{bit-and, bit-xor, bit-high, bit-mod}
 use Rattle.bits.proofs.Range.{mem-upto, all-mem}
 use Rattle.bits.proofs.Shift.{bit-shl-in, bit-shl-in-low}
 use Rattle.bits.proofs.Word.{word-ext, bit-word-keep}
 use Rattle.rules.specs.Coefficient.{coefficient, packed}
+use Rattle.rules.specs.Monomial.{form}
 use Rattle.rules.proofs.Mobius.{coefficient-ext}
 use Rattle.rules.proofs.Packed.{packed-at}
 use Rattle.anf_transform.specs.Change.{Changed}
 use Rattle.anf_transform.specs.Flag.{along, lowest, inWord, Holds}
-use Rattle.anf_transform.proofs.Flag.{along-ext, lowest-zero, lowest-step, lowest-all}
+use Rattle.anf_transform.proofs.Flag.{along-ext, lowest-zero, lowest-step, lowest-all, coefficient-lower}
 
 abbrev pub lacking : ℕ → ℕ
 lacking k = (2 ^ 64 - 1) / (2 ^ (2 ^ k) + 1)
@@ -109,3 +112,10 @@ holds-inside ws vs c m l =
     ap (λ (v : ℕ). bit v (m % 64)) (c .here i (omega arith) (omega (arith, c .same)))
     ∙ bit-word-keep 64 (coefficient 6 (bit w)) (m % 64) (omega arith)
     ∙ coefficient-ext 6 (bit w) (λ s. packed ws (i * 64 + s)) (m % 64) same
+
+pub inWord-form : (n w : ℕ) → n ≤ 6 → inWord w % 2 ^ (2 ^ n) ≡ word (form n (coefficient n (bit w)))
+unfolding inWord form
+inWord-form n w h =
+    word-ext (2 ^ n) (inWord w % 2 ^ (2 ^ n)) (coefficient n (bit w)) (mod-lt (inWord w) (pow-pos (2 ^ n)))
+    (λ m l. bit-mod (inWord w) (2 ^ n) m l ∙ bit-word-keep 64 (coefficient 6 (bit w)) m (lt-of-lt-of-le l (pow-mono h))
+    ∙ coefficient-lower n 6 (bit w) m h l)

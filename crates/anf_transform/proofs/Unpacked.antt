@@ -1,10 +1,10 @@
 -- Words that give way to their bits, one entry each, the last word first: what has been done down to word i, one word further, and at the end.
--- It rests on the laws of runs of stores (Stores), of words (Words) and of coefficient words (rules, Packed). Assumes nothing.
---   unpacked n l i       == l with an entry a bit, from word i's first on
---   unpacked-none, unpacked-more, unpacked-all  == no word yet, one word more, and all words
---   getD-unpacked        == the words below are as they were
+-- It rests on the laws of runs of stores (Stores) and of coefficient words (rules, Packed; packed_anf, Room). Assumes nothing.
+--   unpacked n l i                             == l with an entry a bit, from word i's first on
+--   unpacked-none, unpacked-more, unpacked-all == no word yet, one word more, and all words
+--   getD-unpacked                              == the words below are as they were
 use mathlib.Core.List.{List, _++_, map, map-map, map-append}
-use mathlib.Core.Logic.{_⊎_, inl, inr}
+use mathlib.Core.Logic.{inl, inr}
 use mathlib.Core.Path.{_≡_, sym, ap, ap₂, _∙_}
 use Prim.Native.Nat.{ℕ, _+_, _-_, _*_, _^_, _≤_, _<_, min}
 use native.Mathlib.Nat.{add-zero, min-eq-left, min-eq-right}
@@ -16,8 +16,8 @@ use Rattle.bits.specs.Range.{from, upto}
 use Rattle.bits.proofs.Range.{from-add, from-map}
 use Rattle.rules.specs.Coefficient.{wordCount, packed}
 use Rattle.rules.proofs.Packed.{wordCount-room, length-map-upto, getD-map-upto, map-upto-of, packed-at}
+use Rattle.packed_anf.proofs.Room.{Room, room}
 use Rattle.anf_transform.proofs.Stores.{sets-before, getD-sets-before}
-use Rattle.anf_transform.proofs.Words.{room}
 
 module _ (n : ℕ) (l : List ℕ) where
   -- k entries from place a on
@@ -54,8 +54,7 @@ module _ (n : ℕ) (l : List ℕ) where
   unfolding from
   unpacked-more i h = go (room n)
     where
-      go : ((2 ^ n < 64) × (wordCount n ≡ 1)) ⊎ ((64 ≤ 2 ^ n) × (64 * wordCount n ≡ 2 ^ n))
-          → sets (unpacked (i + 1)) (64 * i) (bits i (min (2 ^ n) 64)) ≡ unpacked i
+      go : Room n → sets (unpacked (i + 1)) (64 * i) (bits i (min (2 ^ n) 64)) ≡ unpacked i
       go (inl s) =
           let z : 2 ^ n - 64 * (i + 1) ≡ 0 = omega arith in
           let k : min (2 ^ n) 64 ≡ 2 ^ n - 64 * i = min-eq-left {m = 64} (omega arith) ∙ omega arith in

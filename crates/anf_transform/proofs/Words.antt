@@ -1,20 +1,18 @@
 -- The words of a table or of coefficients, one at a time: how much of them each word holds, and lists of words that are the words of a function.
--- It rests on the laws of coefficient words (rules, Packed) and of bits and words (bits, Bit and Word). Assumes nothing.
---   room, part-fits      == one word that is not full, or full words; the settings of one word are among all
---   part-word            == the word that holds one word's settings
---   wordCount-le         == there are no more words than settings
+-- It rests on the laws of coefficient words (rules, Packed; packed_anf, Room) and of bits and words (bits, Bit and Word). Assumes nothing.
 --   packed-append, packed-take == the coefficients of words with more behind them, and of the first words of more
---   full-words, cut-word == words that hold f at every setting are the words of f, with the first word's stray bits cut off where it is not full
+--   part-fits, part-word       == the settings of one word are among all, and the word that holds them
+--   full-words, cut-word       == words that hold f at every setting are the words of f; where they leave room, once the stray bits are cut off
 use mathlib.Core.Bool.{Bool, true, false, _&&_}
 use mathlib.Core.List.{List, _++_}
-use mathlib.Core.Logic.{_⊎_, inl, inr}
+use mathlib.Core.Logic.{inl, inr}
 use mathlib.Core.Path.{_≡_, refl, sym, ap, _∙_}
-use Prim.Native.Nat.{ℕ, _+_, _-_, _*_, _/_, _%_, _^_, _≤_, _<_, min}
+use Prim.Native.Nat.{ℕ, _+_, _*_, _/_, _%_, _^_, _≤_, _<_, min}
 use native.Mathlib.Nat.{lt-of-lt-of-le, lt-of-le-of-lt, min-eq-left, min-eq-right, min-le-left, min-le-right, mod-le}
 use native.Mathlib.Omega.{arith}
 use lib.Dec.{ltb}
 use lib.ListN.{length, getD, set, take, length-set, List·getD-append}
-use lib.Pow.{pow-mono, pow-add, pow-pos}
+use lib.Pow.{pow-mono}
 use lib.Seq.{getD-set-same, getD-take}
 use borrow.Author.Tests.{ltb-true, ltb-false, lt-ltb, le-ltb}
 use Rattle.bits.specs.Bit.{bit}
@@ -23,26 +21,8 @@ use Rattle.bits.specs.Word.{word}
 use Rattle.bits.proofs.Bit.{bit-above, bit-mod, bit-mod-high}
 use Rattle.bits.proofs.Word.{bit-word-keep, word-keep-lt, word-ext}
 use Rattle.rules.specs.Coefficient.{wordCount, packed, wordOf, words}
-use Rattle.rules.proofs.Packed.{wordCount-small, wordCount-large, wordCount-room, packed-at, getD-words, words-of}
-
-pub room : (n : ℕ) → ((2 ^ n < 64) × (wordCount n ≡ 1)) ⊎ ((64 ≤ 2 ^ n) × (64 * wordCount n ≡ 2 ^ n))
-room n = go (ltb n 6) refl
-  where
-    go : (b : Bool) → ltb n 6 ≡ b → ((2 ^ n < 64) × (wordCount n ≡ 1)) ⊎ ((64 ≤ 2 ^ n) × (64 * wordCount n ≡ 2 ^ n))
-    go true e =
-        let l = ltb-true n 6 e in
-        let p : 2 ^ n ≤ 2 ^ 5 = pow-mono {j = 5} (omega arith) in
-        inl (omega arith, wordCount-small n (omega arith))
-    go false e =
-        let l = ltb-false n 6 e in
-        let s : n ≡ 6 + (n - 6) = omega arith in
-        let c : wordCount n ≡ 2 ^ (n - 6) = ap wordCount s ∙ wordCount-large (n - 6) in
-        let p : 2 ^ n ≡ 64 * 2 ^ (n - 6) = ap (λ (k : ℕ). 2 ^ k) s ∙ pow-add 2 6 (n - 6) in
-        inr (omega (arith, pow-pos (n - 6)), omega arith)
-
-pub wordCount-le : (n : ℕ) → wordCount n ≤ 2 ^ n
-unfolding wordCount
-wordCount-le n = let p = pow-pos n in omega arith
+use Rattle.rules.proofs.Packed.{wordCount-small, wordCount-room, packed-at, getD-words, words-of}
+use Rattle.packed_anf.proofs.Room.{Room, room, wordCount-full}
 
 -- words with more behind them, and the first words of more
 module _ (n : ℕ) (ws : List ℕ) (m : ℕ) (h : m < 2 ^ n) where
@@ -63,7 +43,7 @@ module _ (n i : ℕ) (h : i < wordCount n) where
   pub part-fits : 64 * i + min (2 ^ n) 64 ≤ 2 ^ n
   part-fits = go (room n)
     where
-      go : ((2 ^ n < 64) × (wordCount n ≡ 1)) ⊎ ((64 ≤ 2 ^ n) × (64 * wordCount n ≡ 2 ^ n)) → 64 * i + min (2 ^ n) 64 ≤ 2 ^ n
+      go : Room n → 64 * i + min (2 ^ n) 64 ≤ 2 ^ n
       go (inl s) = omega (arith, min-le-left (2 ^ n) 64)
       go (inr s) = omega (arith, min-le-right (2 ^ n) 64)
 
@@ -71,7 +51,7 @@ module _ (n i : ℕ) (h : i < wordCount n) where
   part-past : (j : ℕ) → min (2 ^ n) 64 ≤ j → j < 64 → 2 ^ n ≤ 64 * i + j
   part-past j k l = go (room n)
     where
-      go : ((2 ^ n < 64) × (wordCount n ≡ 1)) ⊎ ((64 ≤ 2 ^ n) × (64 * wordCount n ≡ 2 ^ n)) → 2 ^ n ≤ 64 * i + j
+      go : Room n → 2 ^ n ≤ 64 * i + j
       go (inl s) = let e : min (2 ^ n) 64 ≡ 2 ^ n = min-eq-left {m = 64} (omega arith) in omega arith
       go (inr s) = omega (arith, min-eq-right (s .0))
 
@@ -103,14 +83,9 @@ module _ (n i : ℕ) (h : i < wordCount n) where
 module _ (n : ℕ) (f : ℕ → Bool) (ws : List ℕ) (size : length ws ≡ wordCount n) (small : (i : ℕ) → getD ws i 0 < 2 ^ 64)
     (holds : (m : ℕ) → m < 2 ^ n → packed ws m ≡ f m) where
   pub full-words : 6 ≤ n → ws ≡ words n f
-  full-words h = words-of n f ws size (λ i k. small i) (λ m k. at m (below m k (room n)))
-    where
-      at : (m : ℕ) → m < 2 ^ n → packed ws m ≡ (ltb m (2 ^ n) && f m)
-      at m l = holds m l ∙ ap (λ (b : Bool). b && f m) (sym (lt-ltb m (2 ^ n) l))
-
-      below : (m : ℕ) → m < 64 * wordCount n → ((2 ^ n < 64) × (wordCount n ≡ 1)) ⊎ ((64 ≤ 2 ^ n) × (64 * wordCount n ≡ 2 ^ n)) → m < 2 ^ n
-      below m k (inl s) = let p : 2 ^ 6 ≤ 2 ^ n = pow-mono h in absurd (omega arith)
-      below m k (inr s) = omega arith
+  full-words h =
+      words-of n f ws size (λ i k. small i)
+      (λ m k. let l : m < 2 ^ n = omega (arith, wordCount-full n h) in holds m l ∙ ap (λ (b : Bool). b && f m) (sym (lt-ltb m (2 ^ n) l)))
 
   pub cut-word : n < 6 → set ws 0 (getD ws 0 0 % 2 ^ (2 ^ n)) ≡ words n f
   cut-word h =

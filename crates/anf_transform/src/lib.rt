@@ -3,6 +3,7 @@
 mod between;
 mod inside;
 mod pack;
+pub mod rule;
 
 use rules::FORM_FLAGS;
 use rules::Refusal;

@@ -21,7 +21,7 @@ fn per_word(settings: usize) -> usize
 }
 
 // The low bits of `count` entries from `base` on, as one word.
-fn pack_word(table: &[u64], base: usize, count: usize) -> u64
+pub fn pack_word(table: &[u64], base: usize, count: usize) -> u64
     requires { ⌜ (base + count ≤ length (now table)) × (count ≤ 64) ⌝ }
     ensures { λ r. ⌜ r ≡ word (keep (λ j. entry (now (table .entry)) (base + j)) (upto count)) ⌝ }
 {

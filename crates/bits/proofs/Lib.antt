@@ -15,3 +15,8 @@ pub mod First
 pub mod Invariant
 pub mod Places
 pub mod Digits
+pub mod Stores
+pub mod Sets
+pub mod Union
+pub mod Disjoint
+pub mod Chosen

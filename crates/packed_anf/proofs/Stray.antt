@@ -1,5 +1,5 @@
 -- Stray coefficients: with six flags or more there is no room for one, and with fewer the first word tells by its size.
--- It rests on the laws of coefficient words (rules, Packed) and of bits (bits, Bit). Assumes nothing.
+-- It rests on the laws of coefficient words (rules, Packed, and Room) and of bits (bits, Bit). Assumes nothing.
 --   stray-none       == six flags or more
 --   stray-first      == fewer than six: the first word is greater than its low bits
 use mathlib.Core.Bool.{Bool, true, false, _&&_, false≢true}
@@ -10,7 +10,6 @@ use native.Mathlib.Nat.{mod-le, mod-eq-of-lt}
 use native.Mathlib.Omega.{arith}
 use lib.Dec.{leb, ltb}
 use lib.ListN.{getD}
-use lib.Pow.{pow-add}
 use borrow.Author.Tests.{ltb-true, ltb-false, leb-true, lt-ltb, le-ltb}
 use Rattle.bits.specs.Bit.{bit}
 use Rattle.bits.specs.Range.{from, any}
@@ -18,15 +17,13 @@ use Rattle.bits.proofs.Truth.{and-true-l, and-true-r}
 use Rattle.bits.proofs.Range.{any-mem, mem-from}
 use Rattle.bits.proofs.Bit.{bit-above, bit-mod-high, bits-lt}
 use Rattle.rules.specs.Coefficient.{wordCount, packed, stray}
-use Rattle.rules.proofs.Packed.{wordCount-small, wordCount-large, packed-at, not-stray}
+use Rattle.rules.proofs.Packed.{wordCount-small, packed-at, not-stray}
+use Rattle.packed_anf.proofs.Room.{wordCount-full}
 
 pub stray-none : (n : ℕ) (ws : List ℕ) → 6 ≤ n → stray n ws ≡ false
 unfolding stray from any
 stray-none n ws h =
-    let e : n ≡ 6 + (n - 6) = omega arith in
-    let c : wordCount n ≡ 2 ^ (n - 6) = ap wordCount e ∙ wordCount-large (n - 6) in
-    let p : 2 ^ n ≡ 64 * 2 ^ (n - 6) = ap (λ (k : ℕ). 2 ^ k) e ∙ pow-add 2 6 (n - 6) in
-    let z : 64 * wordCount n - 2 ^ n ≡ 0 = omega arith in
+    let z : 64 * wordCount n - 2 ^ n ≡ 0 = omega (arith, wordCount-full n h) in
     ap (λ (k : ℕ). any (packed ws) (from (2 ^ n) k)) z
 
 module _ (n : ℕ) (ws : List ℕ) (few : n < 6) where

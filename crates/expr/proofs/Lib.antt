@@ -1,0 +1,5 @@
+pub mod Reader
+pub mod Marks
+pub mod Stack
+pub mod Walk
+pub mod Values

@@ -1,0 +1,154 @@
+-- Laws of the reader's answers on paper: what a record that it finds is good for, and what each of its three answers says of the bytes. They
+-- rest on `recordAt` of rules' Record and on `read` of its Calls. Assumes nothing.
+--   Read n s p r                         == the record r stands at place p, with the facts that every walk needs of it
+--   read-found, read-end, read-refused   == what the reader's three answers say
+--   read-index                           == a found flag's index is below any bound on the flag count
+--   only-end                             == the code's answer is the end where it is neither a record nor a refusal
+use mathlib.Core.Bool.{Bool, true, false}
+use mathlib.Core.List.{List}
+use mathlib.Core.Logic.{_⊎_, ⊎-elim}
+use mathlib.Core.Option.{Option, none, some}
+use mathlib.Core.Path.{_≡_, refl}
+use Prim.Native.Nat.{ℕ, _+_, _≤_, _<_}
+use native.Mathlib.Omega.{arith}
+use lib.Dec.{eqb, leb, ltb}
+use lib.ListN.{length, getD}
+use denote.Enum.Declared.{tagOf}
+use borrow.Author.Tests.{ltb-true, ltb-false, le-ltb}
+use Rattle.rules.specs.Calls.{read}
+use Rattle.rules.specs.Limits.{ruleFlags, tooManyFlags, badMark, badPayload}
+use Rattle.rules.specs.Outcome.{Outcome, gives, refuses, refuse, _then_}
+use Rattle.rules.specs.Record.{Kind, Constant, Flag, And, Or, Xor, Not, Found, marked, plain, loaded, recordAt}
+use Rattle.expr.specs.Answers.{IndexBelow}
+use Rattle.expr.specs.declared.Reading.{Reading}
+use Rattle.expr.proofs.Reading.{the-type}
+
+pub record Read (n : ℕ) (s : List ℕ) (p : ℕ) (r : Found) : Type 0 where
+  pub stands : recordAt n s p ≡ gives r
+  pub after : p < r .next
+  pub within : r .next ≤ length s
+  pub index : IndexBelow n (r .kind)
+
+-- two cases are never equal, and from such an equation `cc` shows this one
+clash : {A : Type 0} → _≡_ {A = ℕ} 0 1 → A
+clash e = absurd (omega arith)
+
+-- ---- a record that was found
+
+abbrev Good : ℕ → List ℕ → ℕ → Found → Type 0
+Good n s p r = (p < r .next) × (r .next ≤ length s) × IndexBelow n (r .kind)
+
+data Sound (n : ℕ) (s : List ℕ) (p : ℕ) : Outcome Found → Type 0 where
+  found : (r : Found) → Good n s p r → Sound n s p (gives r)
+  refused : {k q : ℕ} → Sound n s p (refuses k q)
+
+module _ (n : ℕ) (s : List ℕ) (p : ℕ) where
+  either : (b : Bool) {o o′ : Outcome Found} → Sound n s p o → Sound n s p o′ → Sound n s p (elim b [ true ↦ o | false ↦ o′ ])
+  either true x y = x
+  either false x y = y
+
+  row : (b : Bool) (k q : ℕ) {o : Outcome Found} → (b ≡ false → Sound n s p o) → Sound n s p (refuse b k q o)
+  row true k q x = refused
+  row false k q x = x refl
+
+  plain-sound : (k : Kind) → IndexBelow n k → p + 2 ≤ length s → Sound n s p (plain k p)
+  unfolding plain
+  plain-sound k i h = found (record { kind = k; next = p + 2 }) (omega arith, h, i)
+
+  loaded-sound : (fits : Bool) (k : Kind) → (fits ≡ true → IndexBelow n k) → Sound n s p (loaded s p fits k)
+  unfolding loaded
+  loaded-sound fits k i = row (ltb (length s) (p + 3)) badPayload p (λ e. present fits i (ltb-false (length s) (p + 3) e))
+    where
+      present : (f : Bool) → (f ≡ true → IndexBelow n k) → p + 3 ≤ length s
+          → Sound n s p (elim f [ true ↦ gives (record { kind = k; next = p + 3 }) | false ↦ refuses badPayload p ])
+      present true j h = found (record { kind = k; next = p + 3 }) (omega arith, h, j refl)
+      present false j h = refused
+
+  record-sound : Sound n s p (recordAt n s p)
+  unfolding recordAt
+  record-sound =
+      row (ltb (length s) (p + 2)) badMark p
+      (λ e. let h = ltb-false (length s) (p + 2) e in
+      let b : ℕ = getD s (p + 2) 0 in
+      either (marked s p "CO") (loaded-sound (leb b 1) (Constant (eqb b 1)) (λ e. tt))
+      (either (marked s p "VA") (loaded-sound (ltb b n) (Flag b) (ltb-true b n))
+      (either (marked s p "AN") (plain-sound And tt h)
+      (either (marked s p "OR") (plain-sound Or tt h)
+      (either (marked s p "XO") (plain-sound Xor tt h)
+      (either (marked s p "NO") (plain-sound Not tt h) refused))))))
+
+  sound-good : {o : Outcome Found} → Sound n s p o → (r : Found) → o ≡ gives r → Good n s p r
+  sound-good (found q f) r e = let same : q ≡ r = cc in rw same at f
+  sound-good refused r e = clash (cc)
+
+  record-read : (r : Found) → recordAt n s p ≡ gives r → Read n s p r
+  record-read r e =
+      let g = sound-good record-sound r e in
+      record { stands = e; after = g .0; within = g .1; index = g .2 }
+
+index-more : (n m : ℕ) → n ≤ m → (k : Kind) → IndexBelow n k → IndexBelow m k
+index-more n m l (Constant b) h = tt
+index-more n m l (Flag i) h = omega arith
+index-more n m l And h = tt
+index-more n m l Or h = tt
+index-more n m l Xor h = tt
+index-more n m l Not h = tt
+
+pub read-index : {n : ℕ} {s : List ℕ} {p : ℕ} {r : Found} → Read n s p r → (m : ℕ) → n ≤ m → IndexBelow m (r .kind)
+read-index {n} {r = r} f m l = index-more n m l (r .kind) (f .index)
+
+-- ---- the three answers
+
+then-found : (o : Outcome Found) (r : Found) → o then (λ x. gives (some x)) ≡ gives (some r) → o ≡ gives r
+then-found (gives q) r e = cc
+then-found (refuses k q) r e = cc
+
+then-none : (o : Outcome Found) → o then (λ x. gives (some x)) ≡ gives none → ⊥
+then-none (gives q) e = clash (cc)
+then-none (refuses k q) e = clash (cc)
+
+then-refused : (o : Outcome Found) (k q : ℕ) → o then (λ x. gives (some x)) ≡ refuses k q → o ≡ refuses k q
+then-refused (gives a) k q e = cc
+then-refused (refuses a b) k q e = cc
+
+module _ (n : ℕ) (s : List ℕ) (p : ℕ) where
+  -- the reader's answer by the two tests that come before the record
+  answer : Bool → Bool → Outcome (Option Found)
+  answer over inside =
+      refuse over tooManyFlags 0
+      (elim inside [ true ↦ recordAt n s p then (λ r. gives (some r)) | false ↦ gives none ])
+
+  pub read-found : (r : Found) → read n s p ≡ gives (some r) → Read n s p r
+  unfolding read answer
+  read-found r e = go (ltb ruleFlags n) (ltb p (length s)) e
+    where
+      go : (a b : Bool) → answer a b ≡ gives (some r) → Read n s p r
+      go true b h = clash (cc)
+      go false true h = record-read n s p r (then-found (recordAt n s p) r h)
+      go false false h = clash (cc)
+
+  pub read-end : read n s p ≡ gives none → length s ≤ p
+  unfolding read answer
+  read-end e = go (ltb ruleFlags n) (ltb p (length s)) refl e
+    where
+      go : (a b : Bool) → ltb p (length s) ≡ b → answer a b ≡ gives none → length s ≤ p
+      go true b q h = clash (cc)
+      go false true q h = absurd (then-none (recordAt n s p) h)
+      go false false q h = ltb-false p (length s) q
+
+  pub read-refused : (k q : ℕ) → n ≤ ruleFlags → read n s p ≡ refuses k q → (p < length s) × (recordAt n s p ≡ refuses k q)
+  unfolding read answer
+  read-refused k q l e = go (ltb ruleFlags n) (ltb p (length s)) (le-ltb ruleFlags n l) refl e
+    where
+      go : (a b : Bool) → a ≡ false → ltb p (length s) ≡ b → answer a b ≡ refuses k q → (p < length s) × (recordAt n s p ≡ refuses k q)
+      go true b f i h = clash (cc)
+      go false true f i h = (ltb-true p (length s) i, then-refused (recordAt n s p) k q h)
+      go false false f i h = clash (cc)
+
+-- ---- the code's answer
+
+-- where a first `else` says that nothing was found, and a second that nothing was refused
+pub only-end : (r : Reading) → (tagOf the-type r ≡ 1) ⊎ (tagOf the-type r ≡ 2) → (tagOf the-type r ≡ 0) ⊎ (tagOf the-type r ≡ 1) → r ≡ Reading.End
+only-end (Reading.Found node) p q = absurd (⊎-elim (λ e. omega arith) (λ e. omega arith) p)
+only-end Reading.End p q = refl
+only-end (Reading.Refused refusal) p q = absurd (⊎-elim (λ e. omega arith) (λ e. omega arith) q)
