@@ -3,3 +3,4 @@ pub mod Marks
 pub mod Stack
 pub mod Walk
 pub mod Values
+pub mod Costed

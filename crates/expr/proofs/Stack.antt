@@ -4,6 +4,8 @@
 --   operand ts i             == the stack's tree at place i, counted from the bottom
 --   Image e ts a             == the array a holds e of the stack's trees, bottom first; above them it holds anything
 --   push-enough, push-few    == what a record does to the stack, where it finds its operands and where it does not
+--   total-two, total-one     == what the operands of a record add to a total over the stack
+--   total-single             == the total over a stack of one tree
 --   size-push, size-operand  == a record adds one to the stack's size; a tree on the stack is no larger than the stack
 --   image-empty, image-push  == the image of no tree; one store keeps the image up with a record
 use mathlib.Core.Bool.{Bool, true, false}
@@ -11,6 +13,7 @@ use mathlib.Core.List.{List, [], _∷_}
 use mathlib.Core.Option.{none, some}
 use mathlib.Core.Path.{_≡_, refl, sym, ap, _∙_}
 use Prim.Native.Nat.{ℕ, zero, suc, _+_, _≤_, _<_}
+use native.Mathlib.Nat.{add-zero}
 use native.Mathlib.Omega.{arith}
 use lib.Dec.{eqb}
 use lib.ListN.{length, getD, drop, set, length-drop}
@@ -89,31 +92,40 @@ push-few Xor ts h = binary-few XO ts h
 push-few Not [] h = refl
 push-few Not (x ∷ ts) h = absurd (omega arith)
 
+-- ---- totals
+
+module _ (f : Tree → ℕ) where
+  pub total-two : (ts : List Tree) (base : ℕ) → base + 2 ≡ length ts
+      → f (operand ts base) + f (operand ts (base + 1)) + total f (drop 2 ts) ≡ total f ts
+  unfolding sum
+  total-two [] base h = absurd (omega arith)
+  total-two (y ∷ []) base h = absurd (omega arith)
+  total-two (y ∷ x ∷ ts) base h =
+      rw (operand-below y (x ∷ ts) base (omega arith), operand-top x ts base (omega arith), operand-top y (x ∷ ts) (base + 1) (omega arith))
+      (omega arith)
+
+  pub total-one : (ts : List Tree) (base : ℕ) → base + 1 ≡ length ts → f (operand ts base) + total f (drop 1 ts) ≡ total f ts
+  unfolding sum
+  total-one [] base h = absurd (omega arith)
+  total-one (x ∷ ts) base h = rw (operand-top x ts base (omega arith))
+
+  pub total-single : (ts : List Tree) → length ts ≡ 1 → total f ts ≡ f (operand ts 0)
+  unfolding sum operand
+  total-single [] h = absurd (omega arith)
+  total-single (t ∷ []) h = add-zero (f t)
+  total-single (t ∷ u ∷ ts) h = absurd (omega arith)
+
 -- ---- sizes
-
-total-two : (ts : List Tree) (base : ℕ) → base + 2 ≡ length ts
-    → size (operand ts base) + size (operand ts (base + 1)) + total size (drop 2 ts) ≡ total size ts
-unfolding sum
-total-two [] base h = absurd (omega arith)
-total-two (y ∷ []) base h = absurd (omega arith)
-total-two (y ∷ x ∷ ts) base h =
-    rw (operand-below y (x ∷ ts) base (omega arith), operand-top x ts base (omega arith), operand-top y (x ∷ ts) (base + 1) (omega arith))
-    (omega arith)
-
-total-one : (ts : List Tree) (base : ℕ) → base + 1 ≡ length ts → size (operand ts base) + total size (drop 1 ts) ≡ total size ts
-unfolding sum
-total-one [] base h = absurd (omega arith)
-total-one (x ∷ ts) base h = rw (operand-top x ts base (omega arith))
 
 pub size-push : (k : Kind) (ts : List Tree) (base : ℕ) → base + arityOf k ≡ length ts
     → total size (node k (operand ts base) (operand ts (base + 1)) ∷ drop (arityOf k) ts) ≡ total size ts + 1
 unfolding sum size
 size-push (Constant b) ts base h = omega arith
 size-push (Flag i) ts base h = omega arith
-size-push And ts base h = omega (arith, total-two ts base h)
-size-push Or ts base h = omega (arith, total-two ts base h)
-size-push Xor ts base h = omega (arith, total-two ts base h)
-size-push Not ts base h = omega (arith, total-one ts base h)
+size-push And ts base h = omega (arith, total-two size ts base h)
+size-push Or ts base h = omega (arith, total-two size ts base h)
+size-push Xor ts base h = omega (arith, total-two size ts base h)
+size-push Not ts base h = omega (arith, total-one size ts base h)
 
 pub size-operand : (ts : List Tree) (i : ℕ) → i < length ts → size (operand ts i) ≤ total size ts
 unfolding sum

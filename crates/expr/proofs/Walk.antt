@@ -7,6 +7,7 @@
 --   tree w i, grown w k base             == the stack's tree at place i; the tree of a record of kind k over the operands from place base on
 --   walk-start, walk-step                == before the first record; one record more
 --   walk-tree, walk-size                 == a tree on the stack has no more records than are read, and so has the new one
+--   walk-stack                           == what a record leaves on the machine's stack
 --   walk-image                           == one store keeps an array up with a record
 --   walk-few, walk-refused, walk-many    == too few operands, a refusal of the reader, and a record too many refuse the expression
 --   walk-end                             == at the end of the bytes one operand must be left
@@ -71,7 +72,7 @@ finish-ended len (t ∷ u ∷ ts) = rw (ne-eqb (length (t ∷ u ∷ ts)) 1 (λ e
 
 -- ---- the walk
 
-pub walk-start : (n : ℕ) (s : List ℕ) → Walk n s 0 0 0
+unfoldable pub walk-start : (n : ℕ) (s : List ℕ) → Walk n s 0 0 0
 unfolding made sum
 walk-start n s = record { stack = []; runs = refl; deep = refl; high = lit≤ tt; sizes = refl }
 
@@ -125,6 +126,10 @@ module _ {n : ℕ} {s : List ℕ} {count place depth : ℕ} (w : Walk n s count 
             high = omega arith;
             sizes = size-push (r .kind) (w .stack) base q ∙ ap (λ (k : ℕ). k + 1) (w .sizes);
           }
+
+      pub walk-stack : walk-step .stack ≡ grown (r .kind) base ∷ drop (arityOf (r .kind)) (w .stack)
+      unfolding walk-step
+      walk-stack = refl
 
       pub walk-size : size (grown (r .kind) base) ≤ count + 1
       unfolding sum walk-step

@@ -2,11 +2,12 @@
 --   kindOf k         == the kind of a record
 --   readingOf r      == the reader's answer: a record with the next place, the end, or a refusal
 --   arityOf k        == how many operands a record of the kind has
+--   orOf k           == a record of the kind is an OR
 --   IndexBelow n k   == a record of the kind names no flag at n or above
 --   constantAt s p   == the reader's answer at a record of the mark CO
 --   flagAt n s p     == the reader's answer at a record of the mark VA
 --   ended d len o    == the answer o at the end of len bytes, where d operands are left
-use mathlib.Core.Bool.{not}
+use mathlib.Core.Bool.{Bool, true, false, not}
 use mathlib.Core.List.{List}
 use mathlib.Core.Option.{Option, none, some}
 use Prim.Native.Nat.{ℕ, _+_, _<_}
@@ -41,6 +42,15 @@ arityOf paper.And = 2
 arityOf paper.Or = 2
 arityOf paper.Xor = 2
 arityOf paper.Not = 1
+
+-- "an OR": the discount asks for the first operand's kind
+abbrev pub orOf : paper.Kind → Bool
+orOf (paper.Constant b) = false
+orOf (paper.Flag i) = false
+orOf paper.And = false
+orOf paper.Or = true
+orOf paper.Xor = false
+orOf paper.Not = false
 
 abbrev pub IndexBelow : ℕ → paper.Kind → Type 0
 IndexBelow n (paper.Constant b) = Unit

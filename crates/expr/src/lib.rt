@@ -12,7 +12,7 @@ ghost use mathlib.Core.Path.{_≡_};
 ghost use Prim.Native.Nat.{_+_, _*_, _^_, _≤_, _<_};
 ghost use lib.ListN.{length};
 ghost use Rattle.rules.specs.Calls;
-ghost use Rattle.expr.specs.Answers.{readingOf, arityOf, kindOf, constantAt, flagAt};
+ghost use Rattle.expr.specs.Answers.{readingOf, arityOf, orOf, kindOf, constantAt, flagAt};
 
 // What a record is, with its payload.
 pub enum Kind {
@@ -48,6 +48,20 @@ pub fn arity(kind: Kind) -> usize
         Kind::Or => 2,
         Kind::Xor => 2,
         Kind::Not => 1,
+    }
+}
+
+// Whether a record is an OR.
+pub fn is_or(kind: Kind) -> bool
+    ensures { λ r. ⌜ r ≡ orOf (kindOf kind) ⌝ }
+{
+    match kind {
+        Kind::Constant(_) => false,
+        Kind::Variable(_) => false,
+        Kind::And => false,
+        Kind::Or => true,
+        Kind::Xor => false,
+        Kind::Not => false,
     }
 }
 

@@ -1,0 +1,4 @@
+pub mod Flags
+pub mod Layer
+pub mod Runs
+pub mod Told

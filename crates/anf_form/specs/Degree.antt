@@ -1,0 +1,20 @@
+-- The masks that coefficient words hold, degree by degree. A mask's degree is its count of ones.
+--   held k ws        == the masks whose coefficient is 1 in the first k words ws, ascending
+--   ofDegree d l     == the masks of l that have d ones, in their order
+--   layer d          == the word of the masks below 64 that have d ones
+use mathlib.Core.List.{List}
+use Prim.Native.Nat.{ℕ, _*_}
+use lib.Count.{ones}
+use lib.Dec.{eqb}
+use Rattle.bits.specs.Range.{keep, upto}
+use Rattle.bits.specs.Word.{word}
+use Rattle.rules.specs.Coefficient.{packed}
+
+abbrev pub held : ℕ → List ℕ → List ℕ
+held k ws = keep (packed ws) (upto (64 * k))
+
+abbrev pub ofDegree : ℕ → List ℕ → List ℕ
+ofDegree d l = keep (λ m. eqb (ones m) d) l
+
+unfoldable pub layer : ℕ → ℕ
+layer d = word (ofDegree d (upto 64))

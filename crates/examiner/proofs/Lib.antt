@@ -1,0 +1,4 @@
+pub mod InLanes
+pub mod Settings
+pub mod Examined
+pub mod Verdict

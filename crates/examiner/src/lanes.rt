@@ -1,0 +1,109 @@
+// The walk over an expression's records with 64 settings side by side, one word for each flag: what the records make of them, and the cost on the
+// way. A tree costs one for each record, less one for each OR whose first operand is an OR.
+use expr::Kind;
+use expr::Reading;
+use rules::BAD_END;
+use rules::FEW_OPERANDS;
+use rules::MANY_RECORDS;
+use rules::RECORD_LIMIT;
+use rules::Refusal;
+ghost use mathlib.Core.Path.{_≡_};
+ghost use Prim.Native.Nat.{_≤_};
+ghost use lib.Dec.{eqb};
+ghost use lib.ListN.{length};
+ghost use Rattle.rules.specs.Limits.{ruleFlags};
+ghost use Rattle.rules.specs.Outcome.{gives};
+ghost use Rattle.expr.specs.Answers.{kindOf, ended, IndexBelow};
+ghost use Rattle.examiner.specs.Lanes.{seen, walkedOf, applied, filled};
+
+// The values of an expression in all lanes, and its cost.
+pub struct Seen {
+    pub values: u64,
+    pub cost: usize,
+}
+
+pub enum Walked {
+    Values(Seen),
+    Refused(Refusal),
+}
+
+// The records in turn over a stack of words; beside it stands whether an entry is an OR.
+pub fn walk(flags: usize, bytes: &[u8], words: &[u64]) -> Walked
+    requires { ⌜ (flags ≤ ruleFlags) × (flags ≤ length (now words)) ⌝ }
+    ensures { λ r. ⌜ walkedOf r ≡ seen flags (now (bytes .entry)) (now (words .entry)) ⌝ }
+{
+    let mut stack = [0u64; 386];
+    let mut ors = [false; 386];
+    let mut depth = 0;
+    let mut place = 0;
+    let mut count = 0;
+    let mut saved = 0;
+    while count < RECORD_LIMIT {
+        let answer = expr::read(flags, bytes, place);
+        let Reading::Found(node) = answer else {
+            let Reading::Refused(refusal) = answer else {
+                return finished(stack[0], count - saved, depth, bytes.len());
+            };
+            return Walked::Refused(refusal);
+        };
+        let kind = node.kind;
+        let operands = expr::arity(kind);
+        if depth < operands {
+            return refused(FEW_OPERANDS, place);
+        }
+        let base = depth - operands;
+        let second = base + 1;
+        let or = expr::is_or(kind);
+        saved = saved + ((or & ors[base]) as usize);
+        ors[base] = or;
+        stack[base] = value(kind, words, stack[base], stack[second]);
+        depth = second;
+        place = node.next;
+        count = count + 1;
+    }
+    if place < bytes.len() {
+        return refused(MANY_RECORDS, place);
+    }
+    finished(stack[0], count - saved, depth, bytes.len())
+}
+
+fn refused(number: u64, place: usize) -> Walked
+    ensures { λ r. ⌜ r ≡ Walked.Refused (record { number = number; place = place }) ⌝ }
+{
+    Walked::Refused(Refusal { number, place })
+}
+
+// The answer at the end of the records, where one operand must be left.
+fn finished(values: u64, cost: usize, depth: usize, length: usize) -> Walked
+    ensures { λ r. ⌜ walkedOf r ≡ ended depth length (gives (record { values = values; cost = cost })) ⌝ }
+{
+    if depth == 1 {
+        return Walked::Values(Seen { values, cost });
+    }
+    refused(BAD_END, length)
+}
+
+// The lanes of a record from those of its operands; a leaf has none.
+fn value(kind: Kind, words: &[u64], first: u64, second: u64) -> u64
+    requires { ⌜ IndexBelow (length (now words)) (kindOf kind) ⌝ }
+    ensures { λ r. ⌜ r ≡ applied (now (words .entry)) (kindOf kind) first second ⌝ }
+{
+    match kind {
+        Kind::Constant(b) => all(b),
+        Kind::Variable(i) => words[i as usize],
+        Kind::And => first & second,
+        Kind::Or => first | second,
+        Kind::Xor => first ^ second,
+        Kind::Not => !first,
+    }
+}
+
+// A constant in all lanes.
+fn all(b: u8) -> u64
+    ensures { λ r. ⌜ r ≡ filled (eqb b 1) ⌝ }
+{
+    if b == 1 {
+        return 0xffff_ffff_ffff_ffff;
+    }
+    0
+}

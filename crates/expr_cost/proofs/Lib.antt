@@ -1,0 +1,3 @@
+pub mod TreeCosts
+pub mod Compared
+pub mod Depth

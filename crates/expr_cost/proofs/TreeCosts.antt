@@ -1,0 +1,58 @@
+-- Laws of costing on paper: what it answers by the flag count and by the expression's tree, and what its answer says of the tree. They rest on
+-- `costing` and `parse` of rules' Calls and on the laws of expr's Costed. Assumes nothing.
+--   costs t                            == a tree's cost, size and depth
+--   costing-over, costing-within       == with too many flags; else by the machine
+--   costing-refused                    == a refusal of the machine is costing's
+--   costing-gives, costing-refuses     == what costing's two answers say of the tree
+--   costing-end                        == what a walk answers at the end of the bytes
+use mathlib.Core.Bool.{Bool}
+use mathlib.Core.List.{List}
+use mathlib.Core.Path.{_≡_, refl, sym, ap, _∙_}
+use Prim.Native.Nat.{ℕ, _-_, _≤_, _<_}
+use native.Mathlib.Omega.{arith}
+use lib.ListN.{length, getD}
+use borrow.Author.Tests.{lt-ltb, le-ltb}
+use Rattle.rules.specs.Calls.{Costs, parse, costing}
+use Rattle.rules.specs.Limits.{ruleFlags, tooManyFlags}
+use Rattle.rules.specs.Machine.{made}
+use Rattle.rules.specs.Outcome.{Outcome, gives, refuses, _then_}
+use Rattle.rules.specs.Tree.{Tree, cost, size, depth}
+use Rattle.expr.specs.Answers.{ended}
+use Rattle.expr.proofs.Costed.{Costed, costed-end}
+
+abbrev pub costs : Tree → Costs
+costs t = record { cost = cost t; size = size t; depth = depth t }
+
+module _ (n : ℕ) (s : List ℕ) where
+  pub costing-over : ruleFlags < n → costing n s ≡ refuses tooManyFlags 0
+  unfolding costing parse
+  costing-over h = rw (lt-ltb ruleFlags n h)
+
+  pub costing-within : n ≤ ruleFlags → costing n s ≡ made n s then (λ t. gives (costs t))
+  unfolding costing parse
+  costing-within h = rw (le-ltb ruleFlags n h)
+
+  pub costing-refused : (k p : ℕ) → n ≤ ruleFlags → made n s ≡ refuses k p → costing n s ≡ refuses k p
+  costing-refused k p h e = costing-within h ∙ ap (λ (o : Outcome Tree). o then (λ t. gives (costs t))) e
+
+  pub costing-gives : (c : Costs) → costing n s ≡ gives c → (t : Tree) × (parse n s ≡ gives t) × (costs t ≡ c)
+  unfolding costing
+  costing-gives c e = go (parse n s) e
+    where
+      go : (o : Outcome Tree) → o then (λ t. gives (costs t)) ≡ gives c → (t : Tree) × (o ≡ gives t) × (costs t ≡ c)
+      go (gives t) h = (t, refl, (cc))
+      go (refuses k p) h = absurd (let z : _≡_ {A = ℕ} 0 1 = cc in omega arith)
+
+  pub costing-refuses : (k p : ℕ) → costing n s ≡ refuses k p → parse n s ≡ refuses k p
+  unfolding costing
+  costing-refuses k p e = go (parse n s) e
+    where
+      go : (o : Outcome Tree) → o then (λ t. gives (costs t)) ≡ refuses k p → o ≡ refuses k p
+      go (gives t) h = cc
+      go (refuses a b) h = cc
+
+pub costing-end : {n : ℕ} {s : List ℕ} {count place deep : ℕ} {a : List ℕ} {ors : List Bool} {less : ℕ} → Costed depth n s count place deep a ors less
+    → n ≤ ruleFlags → length s ≤ place
+    → {o : Outcome Costs} → o ≡ ended deep (length s) (gives (record { cost = count - less; size = count; depth = getD a 0 0 })) → o ≡ costing n s
+costing-end {n} {s} w h l e =
+    e ∙ sym (costing-within n s h ∙ costed-end w l 0 (λ (d c k : ℕ). gives (record { cost = c; size = k; depth = d })))

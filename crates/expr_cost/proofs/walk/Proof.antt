@@ -1,0 +1,205 @@
+-- `expr_cost::walk` meets its contract. The loop's invariant: the arrays hold the depths of the machine's trees and which of them are ORs, and `saved`
+-- is what these save. The measure is the number of records that may still begin. From the laws of expr's Walk and Costed, Depth and TreeCosts.
+-- Assumes nothing.
+use mathlib.Core.Path.{_≡_, refl, sym, ap, _∙_}
+use Prim.Native.Nat.{ℕ, _-_, _+_}
+use native.Mathlib.Omega.{arith}
+use lib.ListN.{length, getD, length-set}
+use denote.Ref.{now}
+use borrow.Author.Needs.{needs}
+use Rattle.rules.specs.Limits.{recordLimit}
+use Rattle.rules.specs.Tree as tree
+use Rattle.expr.specs.Answers.{readingOf, kindOf}
+use Rattle.expr.specs.declared.Reading.{Reading}
+use Rattle.expr.proofs.Reader.{Read, read-found, read-end, only-end}
+use Rattle.expr.proofs.Walk.{walk-few, walk-refused, walk-many}
+use Rattle.expr.proofs.Costed.{Costed, costed-start, costed-step, costed-less, costed-fits}
+use Rattle.expr_cost.specs.Answers.{costingOf, deepest}
+use Rattle.expr_cost.proofs.Depth.{depth-folds, deepest-limit}
+use Rattle.expr_cost.proofs.TreeCosts.{costing-refused, costing-end}
+use Rattle.expr_cost.proofs.walk.Statement.{statement}
+use Rattle.expr_cost.proofs.walk.Tie as tie
+
+abbrev Inv-loop : tie.InvT-loop
+Inv-loop flags bytes stack₀ ors₀ depth₀ place₀ count₀ saved₀ stack ors depth place count saved =
+    Costed tree.depth flags bytes count place depth stack ors saved × (length stack ≡ 386) × (length ors ≡ 386)
+
+abbrev μ-loop : tie.MeasureT-loop
+μ-loop flags bytes stack₀ ors₀ depth₀ place₀ count₀ saved₀ stack ors depth place count saved = recordLimit - count
+
+loop-holds : tie.Need-loop-holds Inv-loop μ-loop
+loop-holds c =
+    let a = c .before .args in
+    (costed-start tree.depth (a .flags) (now (a .bytes)) _ _, refl, refl)
+
+read-requires : tie.Need-read-requires Inv-loop μ-loop
+read-requires c κs = search needs
+
+enum-known-answer : tie.Need-enum-known-answer Inv-loop μ-loop
+enum-known-answer c = search needs
+
+enum-known-answer-2 : tie.Need-enum-known-answer-2 Inv-loop μ-loop
+enum-known-answer-2 c = search needs
+
+array-read-finished : tie.Need-array-read-finished Inv-loop μ-loop
+array-read-finished c = search needs
+
+finished-requires : tie.Need-finished-requires Inv-loop μ-loop
+finished-requires c κs = costed-less (c .before .before .before .before .loop .inv .0)
+
+-- the record that the reader found
+found : (c : tie.After-answer Inv-loop μ-loop)
+    → (let a = c .before .before .before .before .before .before .args in
+    let node = c .answer .given .0 .0 in
+    Read (a .flags) (now (a .bytes)) (c .before .before .before .before .loop .place) (record { kind = kindOf (node .kind); next = node .next }))
+found c =
+    let a = c .before .before .before .before .before .before .args in
+    read-found (a .flags) (now (a .bytes)) (c .before .before .before .before .loop .place) _
+    (sym (c .before .before .read .ensures) ∙ ap readingOf (c .answer .given .1))
+
+returns : tie.Need-returns Inv-loop μ-loop
+returns c =
+    let a = c .before .before .before .before .before .before .before .args in
+    let l = c .before .before .before .before .before .loop in
+    let r = c .before .before .before .read in
+    let end : r .result ≡ Reading.End = only-end (r .result) (c .before .before .match .keys2) (c .before .match2 .keys2) in
+    let past = read-end (a .flags) (now (a .bytes)) (l .place) (sym (r .ensures) ∙ ap readingOf end) in
+    costing-end (l .inv .0) (omega arith) past (c .finished .ensures)
+
+returns-2 : tie.Need-returns-2 Inv-loop μ-loop
+returns-2 c =
+    let l = c .before .before .before .before .before .before .loop in
+    let told = sym (c .before .before .before .before .read .ensures) ∙ ap readingOf (c .before .answer2 .given .1) in
+    sym (costing-refused _ _ _ _ (omega arith) (walk-refused (l .inv .0 .walk) (omega arith) (omega arith) told))
+
+arity-requires : tie.Need-arity-requires Inv-loop μ-loop
+arity-requires c κs = search needs
+
+refused-requires : tie.Need-refused-requires Inv-loop μ-loop
+refused-requires c κs = search needs
+
+returns-3 : tie.Need-returns-3 Inv-loop μ-loop
+returns-3 c =
+    let l = c .before .before .before .before .before .before .before .before .loop in
+    ap costingOf (c .refused .ensures)
+    ∙ sym (costing-refused _ _ _ _ (omega arith) (walk-few (l .inv .0 .walk) (found (c .before .before .before .before)) (omega arith) (omega arith)))
+
+add-above : tie.Need-add-above Inv-loop μ-loop
+add-above c = search needs
+
+is-or-requires : tie.Need-is-or-requires Inv-loop μ-loop
+is-or-requires c κs = search needs
+
+array-read-saved : tie.Need-array-read-saved Inv-loop μ-loop
+array-read-saved c = search needs
+
+cast-saved : tie.Need-cast-saved Inv-loop μ-loop
+cast-saved c = search needs
+
+add-saved : tie.Need-add-saved Inv-loop μ-loop
+add-saved c =
+    let l = c .before .before .before .before .before .before .before .before .loop in
+    search (costed-fits (l .inv .0) (omega arith))
+
+array-write-ors : tie.Need-array-write-ors Inv-loop μ-loop
+array-write-ors c = search needs
+
+mul-deeper : tie.Need-mul-deeper Inv-loop μ-loop
+mul-deeper c = search needs
+
+array-read-deeper : tie.Need-array-read-deeper Inv-loop μ-loop
+array-read-deeper c = search needs
+
+mul-deeper-2 : tie.Need-mul-deeper-2 Inv-loop μ-loop
+mul-deeper-2 c = search needs
+
+array-read-deeper-2 : tie.Need-array-read-deeper-2 Inv-loop μ-loop
+array-read-deeper-2 c = search needs
+
+deeper-requires : tie.Need-deeper-requires Inv-loop μ-loop
+deeper-requires c κs =
+    let l = c .before .before .before .before .before .before .before .before .loop in
+    let arity = c .before .before .arity in
+    let base = l .depth - arity .result in
+    omega (arith, deepest-limit (l .inv .0) (found (c .before .before .before .before)) (omega arith) (arity .ensures) base (omega arith))
+
+mul-stack : tie.Need-mul-stack Inv-loop μ-loop
+mul-stack c = search needs
+
+array-write-stack : tie.Need-array-write-stack Inv-loop μ-loop
+array-write-stack c = search needs
+
+add-count : tie.Need-add-count Inv-loop μ-loop
+add-count c = search needs
+
+loop-less : tie.Need-loop-less Inv-loop μ-loop
+loop-less c = search needs
+
+loop-again : tie.Need-loop-again Inv-loop μ-loop
+loop-again c =
+    let l = c .before .before .before .before .before .before .before .before .before .loop in
+    let arity = c .before .before .before .arity in
+    let base = l .depth - arity .result in
+    let is = c .deeper .ensures ∙ ap (λ (k : ℕ). deepest k (getD (l .stack) base 0) (getD (l .stack) (base + 1) 0)) (arity .ensures) in
+    let next = costed-step (l .inv .0) depth-folds 0 (found (c .before .before .before .before .before)) (omega arith)
+    base (omega arith) (omega arith) (omega arith) (c .deeper .result) is (c .before .is-or .result) (c .before .is-or .ensures) in
+    (next, simp length-set (l .inv .1), simp length-set (l .inv .2))
+
+refused-requires-2 : tie.Need-refused-requires-2 Inv-loop μ-loop
+refused-requires-2 c κs = search needs
+
+returns-4 : tie.Need-returns-4 Inv-loop μ-loop
+returns-4 c =
+    let l = c .before .before .before .loop in
+    ap costingOf (c .refused2 .ensures)
+    ∙ sym (costing-refused _ _ _ _ (omega arith) (walk-many (l .inv .0 .walk) (omega arith) (c .before .if2 .taken)))
+
+array-read-finished-2 : tie.Need-array-read-finished-2 Inv-loop μ-loop
+array-read-finished-2 c = search needs
+
+finished-requires-2 : tie.Need-finished-requires-2 Inv-loop μ-loop
+finished-requires-2 c κs = costed-less (c .before .before .loop .inv .0)
+
+returns-5 : tie.Need-returns-5 Inv-loop μ-loop
+returns-5 c =
+    let l = c .before .before .before .loop in
+    costing-end (l .inv .0) (omega arith) (c .before .if2 .left) (c .finished2 .ensures)
+
+pub walk-spec : {M : Type 1} → statement M
+walk-spec =
+    tie.close
+    (tie.spec
+    Inv-loop
+    μ-loop
+    loop-holds
+    read-requires
+    enum-known-answer
+    enum-known-answer-2
+    array-read-finished
+    finished-requires
+    returns
+    returns-2
+    arity-requires
+    refused-requires
+    returns-3
+    add-above
+    is-or-requires
+    array-read-saved
+    cast-saved
+    add-saved
+    array-write-ors
+    mul-deeper
+    array-read-deeper
+    mul-deeper-2
+    array-read-deeper-2
+    deeper-requires
+    mul-stack
+    array-write-stack
+    add-count
+    loop-less
+    loop-again
+    refused-requires-2
+    returns-4
+    array-read-finished-2
+    finished-requires-2
+    returns-5)

@@ -1,0 +1,156 @@
+// Costs of an expression, after `expr_cost.rs` and `anf_expr_cost`: cost, size and depth in one walk over its records, and the cheaper of two. A
+// tree's size is its number of records, and its cost is that less one for each OR whose first operand is an OR. It rests on `expr`.
+use expr::Reading;
+use rules::BAD_END;
+use rules::FEW_OPERANDS;
+use rules::MANY_RECORDS;
+use rules::RECORD_LIMIT;
+use rules::RULE_FLAGS;
+use rules::Refusal;
+use rules::TOO_MANY_FLAGS;
+ghost use mathlib.Core.List.{[]};
+ghost use mathlib.Core.Path.{_≡_};
+ghost use Prim.Native.Nat.{_-_, _^_, _≤_, _<_, max};
+ghost use Rattle.rules.specs.Calls;
+ghost use Rattle.rules.specs.Limits.{ruleFlags};
+ghost use Rattle.rules.specs.Outcome.{gives};
+ghost use Rattle.expr.specs.Answers.{ended};
+ghost use Rattle.expr_cost.specs.Answers.{costsOf, costingOf, deepest, better};
+
+pub struct Costs {
+    pub cost: usize,
+    pub size: usize,
+    pub depth: usize,
+}
+
+pub enum Costing {
+    Known(Costs),
+    Refused(Refusal),
+}
+
+fn refused(number: u64, place: usize) -> Costing
+    ensures { λ r. ⌜ r ≡ Costing.Refused (record { number = number; place = place }) ⌝ }
+{
+    Costing::Refused(Refusal { number, place })
+}
+
+// The costs of an expression.
+pub fn compute_cost(flags: usize, bytes: &[u8]) -> Costing
+    ensures { λ r. ⌜ costingOf r ≡ Calls.costing flags (now (bytes .entry)) ⌝ }
+{
+    if RULE_FLAGS < flags {
+        return refused(TOO_MANY_FLAGS, 0);
+    }
+    walk(flags, bytes)
+}
+
+// The records in turn over a stack of depths; beside it stands whether an entry is an OR.
+fn walk(flags: usize, bytes: &[u8]) -> Costing
+    requires { ⌜ flags ≤ ruleFlags ⌝ }
+    ensures { λ r. ⌜ costingOf r ≡ Calls.costing flags (now (bytes .entry)) ⌝ }
+{
+    let mut stack = [0u16; 386];
+    let mut ors = [false; 386];
+    let mut depth = 0;
+    let mut place = 0;
+    let mut count = 0;
+    let mut saved = 0;
+    while count < RECORD_LIMIT {
+        let answer = expr::read(flags, bytes, place);
+        let Reading::Found(node) = answer else {
+            let Reading::Refused(refusal) = answer else {
+                return finished(stack[0], count, saved, depth, bytes.len());
+            };
+            return Costing::Refused(refusal);
+        };
+        let kind = node.kind;
+        let operands = expr::arity(kind);
+        if depth < operands {
+            return refused(FEW_OPERANDS, place);
+        }
+        let base = depth - operands;
+        let above = base + 1;
+        let or = expr::is_or(kind);
+        saved = saved + ((or & ors[base]) as usize);
+        ors[base] = or;
+        stack[base] = deeper(operands, stack[base], stack[above]);
+        depth = above;
+        place = node.next;
+        count = count + 1;
+    }
+    if place < bytes.len() {
+        return refused(MANY_RECORDS, place);
+    }
+    finished(stack[0], count, saved, depth, bytes.len())
+}
+
+// The answer at the end of the records, where one operand must be left.
+fn finished(deepest: u16, count: usize, saved: usize, depth: usize, length: usize) -> Costing
+    requires { ⌜ saved ≤ count ⌝ }
+    ensures { λ r. ⌜ costingOf r ≡ ended depth length (gives (record { cost = count - saved; size = count; depth = deepest })) ⌝ }
+{
+    if depth == 1 {
+        return Costing::Known(Costs {
+            cost: count - saved,
+            size: count,
+            depth: deepest as usize,
+        });
+    }
+    refused(BAD_END, length)
+}
+
+// The depth of a record with that many operands of these depths.
+fn deeper(operands: usize, first: u16, second: u16) -> u16
+    requires { ⌜ deepest operands first second < 2 ^ 16 ⌝ }
+    ensures { λ r. ⌜ r ≡ deepest operands first second ⌝ }
+{
+    match operands {
+        0 => 1,
+        1 => first + 1,
+        _ => larger(first, second) + 1,
+    }
+}
+
+fn larger(x: u16, y: u16) -> u16
+    ensures { λ r. ⌜ r ≡ max x y ⌝ }
+{
+    if x < y {
+        return y;
+    }
+    x
+}
+
+// The second expression if it is well formed and smaller by size, then depth; else the first; an empty part of the first where either is refused.
+pub fn cheaper<'a>(flags: usize, first: &'a [u8], second: &'a [u8]) -> &'a [u8]
+    ensures { λ r. ⌜ now r ≡ Calls.cheaperOfTwo flags (now (first .entry)) (now (second .entry)) ⌝ }
+{
+    let one = compute_cost(flags, first);
+    let Costing::Known(a) = one else {
+        return empty(first);
+    };
+    let other = compute_cost(flags, second);
+    let Costing::Known(b) = other else {
+        return empty(first);
+    };
+    if is_better(b, a) {
+        return second;
+    }
+    first
+}
+
+// The part of a slice that holds nothing.
+fn empty(s: &[u8]) -> &[u8]
+    ensures { λ r. ⌜ now r ≡ [] ⌝ }
+{
+    &s[..0]
+}
+
+// Whether the candidate's size, or with equal sizes its depth, is smaller.
+pub fn is_better(candidate: Costs, baseline: Costs) -> bool
+    ensures { λ r. ⌜ r ≡ better (costsOf candidate) (costsOf baseline) ⌝ }
+{
+    if candidate.size == baseline.size {
+        return candidate.depth < baseline.depth;
+    }
+    candidate.size < baseline.size
+}
