@@ -64,7 +64,8 @@ pub costed-start : {A : Type 0} (e : Tree → A) (n : ℕ) (s : List ℕ) (a : L
 unfolding walk-start sum
 costed-start e n s a ors = record { walk = walk-start n s; image = image-empty e a; kinds = image-empty isOr ors; saves = refl }
 
-module _ {A : Type 0} {e : Tree → A} {n : ℕ} {s : List ℕ} {count place depth : ℕ} {a : List A} {ors : List Bool} {less : ℕ} (w : Costed e n s count place depth a ors less) where
+module _ {A : Type 0} {e : Tree → A} {n : ℕ} {s : List ℕ} {count place depth less : ℕ} {a : List A} {ors : List Bool}
+    (w : Costed e n s count place depth a ors less) where
   pub costed-less : less ≤ count
   costed-less =
       omega (arith, total-mono saved size (w .walk .stack) (λ t. omega (arith, cost-saved t)), w .saves, w .walk .sizes)

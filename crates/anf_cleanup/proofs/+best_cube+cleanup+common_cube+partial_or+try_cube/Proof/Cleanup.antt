@@ -1,0 +1,78 @@
+-- `anf_cleanup::cleanup`, a member of the cycle: each path is one of the cleanup's equations (Rules), and its cost that of the tree that the choice
+-- makes (Plans). Assumes nothing.
+use mathlib.Core.Path.{refl, sym, _∙_}
+use Prim.Native.Nat.{ℕ}
+use native.Mathlib.Omega.{arith}
+use borrow.Author.Needs.{needs}
+use Rattle.rules.specs.Monomial.{constant}
+use Rattle.form.specs.Masks.{masks}
+use Rattle.form.proofs.Flags.{singles-lt}
+use Rattle.anf_cleanup.specs.declared.Choice.the-variants.{Constant, Family, Raw}
+use Rattle.anf_cleanup.proofs.Bounds.{digit-le, chain-limit}
+use Rattle.anf_cleanup.proofs.Rules.{cleanup-constant, cleanup-family, family-singles}
+use Rattle.anf_cleanup.proofs.Plans.{planned-chosen, planned-contest, cost-constant, cost-family, cost-raw}
+use Rattle.anf_cleanup.proofs.cleanup.Reads as reads
+use Rattle.anf_cleanup.proofs.+best_cube+cleanup+common_cube+partial_or+try_cube.Lts-cleanup as lts
+use Rattle.anf_cleanup.proofs.+best_cube+cleanup+common_cube+partial_or+try_cube.Proof.Claims.{cleanup-at as at, cleanup-calls as calls}
+
+module _ (t : ℕ) where
+  count-requires : lts.Need-count-requires (calls t) (at t) reads.Post
+  count-requires c κs = tt
+
+  returns : lts.Need-returns (calls t) (at t) reads.Post
+  returns c = planned-chosen _ Constant _ (cost-constant _) _ (cleanup-constant _ (sym (c .before .count .ensures) ∙ c .if1 .taken))
+
+  is-family-requires : lts.Need-is-family-requires (calls t) (at t) reads.Post
+  is-family-requires c κs = c .before .before .pre .1 .1
+
+  singles-requires : lts.Need-singles-requires (calls t) (at t) reads.Post
+  singles-requires c κs = tt
+
+  chain-cost-requires : lts.Need-chain-cost-requires (calls t) (at t) reads.Post
+  chain-cost-requires c κs =
+      let asked = c .before .before in
+      let form = asked .before .before .before .args .form in
+      omega (arith, family-singles (masks form) (sym (asked .is-family .ensures) ∙ c .before .if2 .taken), singles-lt (form .word))
+
+  constant-requires : lts.Need-constant-requires (calls t) (at t) reads.Post
+  constant-requires c κs = tt
+
+  mul-t16 : lts.Need-mul-t16 (calls t) (at t) reads.Post
+  mul-t16 c = omega (arith, digit-le (constant (masks (c .before .before .before .before .before .before .before .args .form))))
+
+  add-t17 : lts.Need-add-t17 (calls t) (at t) reads.Post
+  add-t17 c =
+      let single = c .before .before in
+      let form = single .before .before .before .before .before .args .form in
+      omega (arith, digit-le (constant (masks form)), chain-limit (single .singles .result) (omega (arith, singles-lt (form .word))))
+
+  returns-2 : lts.Need-returns-2 (calls t) (at t) reads.Post
+  returns-2 c =
+      let single = c .before .before in
+      let taken = single .before in
+      let counted = taken .before .before in
+      planned-chosen _ Family _ (cost-family _ _ _ _ (single .singles .ensures) (c .before .chain-cost .ensures) (c .constant .ensures)) _
+      (cleanup-family _ (λ e. counted .if1 .left (counted .before .count .ensures ∙ e)) (sym (taken .before .is-family .ensures) ∙ taken .if2 .taken))
+
+  partial-or-requires : lts.Need-partial-or-requires (calls t) (at t) reads.Post
+  partial-or-requires c κs = search needs
+
+  common-cube-requires : lts.Need-common-cube-requires (calls t) (at t) reads.Post
+  common-cube-requires c κs = search needs
+
+  absorption-requires : lts.Need-absorption-requires (calls t) (at t) reads.Post
+  absorption-requires c κs = tt
+
+  returns-3 : lts.Need-returns-3 (calls t) (at t) reads.Post
+  returns-3 c =
+      let second = c .before .before in
+      let left = second .before in
+      let counted = left .before .before in
+      let start = counted .before .before in
+      planned-contest _ _ _ _ _ (λ e. counted .if1 .left (counted .before .count .ensures ∙ e)) (sym (left .before .is-family .ensures) ∙ left .if2 .left)
+      (planned-chosen _ Raw _ (cost-raw _ _ (start .pre .1 .0)) _ refl) (second .partial-or .ensures) (c .before .common-cube .ensures) (c .absorption .ensures)
+
+  pub spec : {M : Type 1} → lts.Closed (calls t) (at t) reads.Post M
+  spec =
+      lts.spec (calls t) (at t) reads.Post count-requires returns is-family-requires singles-requires chain-cost-requires constant-requires
+      mul-t16 add-t17 returns-2 partial-or-requires common-cube-requires absorption-requires returns-3

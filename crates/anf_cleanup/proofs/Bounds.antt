@@ -1,0 +1,83 @@
+-- Bounds for forms in one word, so of at most six flags: their flags are below 64, and every cost is small.
+-- They rest on the cleanup's cost (rules, Size) and on the costs of parts (rules, Cost). Assumes nothing.
+--   digit-le                               == a constant is 1 at most
+--   flags-below                            == the flags that occur in a form
+--   raw-limit, cleanup-limit, inner-limit  == raw cost, and the cost of a cleaned form and of a cleaned inner form
+--   product-limit, chain-limit             == the cost of a product, and of an OR chain
+--   pair-bounds, pair-limit                == two monomials ascend, from 1 to 63; the cost of both products of an absorption
+use mathlib.Core.Bool.{Bool, true, false}
+use mathlib.Core.List.{List, [], _∷_, map}
+use mathlib.Core.Path.{_≡_, refl, sym, ap, subst, _∙_}
+use Prim.Native.Nat.{ℕ, _-_, _≤_, _<_}
+use native.Mathlib.Nat.{le-trans}
+use native.Mathlib.Omega.{arith}
+use lib.Count.{ones, ones-le}
+use lib.Dec.{ltb}
+use borrow.Author.Tests.{ltb-true, ltb-false}
+use Rattle.bits.specs.Bit.{digit}
+use Rattle.bits.specs.Range.{mem, Ascending, Below}
+use Rattle.bits.specs.Sum.{union}
+use Rattle.bits.specs.Word.{places}
+use Rattle.bits.proofs.Ascending.{ascending-keep, below-keep}
+use Rattle.bits.proofs.Range.{mem-head, mem-keep}
+use Rattle.bits.proofs.Truth.{and-true-r}
+use Rattle.bits.proofs.Union.{union-lt}
+use Rattle.bits.proofs.Word.{ascending-places, below-places}
+use Rattle.rules.specs.Cleanup.{covered, stripped, cleanup}
+use Rattle.rules.specs.Form.{cube, orChain, rawCost}
+use Rattle.rules.specs.Monomial.{monomials}
+use Rattle.rules.specs.Tree.{cost}
+use Rattle.rules.proofs.Cost.{cost-cube, cost-orChain, cost-orChain-few, termCost-suc}
+use Rattle.rules.proofs.Covered.{ascending-stripped}
+use Rattle.rules.proofs.Size.{cost-cleanup, rawCost-limit}
+
+pub digit-le : (b : Bool) → digit b ≤ 1
+digit-le true = omega arith
+digit-le false = omega arith
+
+module _ (w : ℕ) where
+  pub flags-below : union (places 64 w) < 64
+  flags-below = union-lt 6 (places 64 w) (below-places 64 w)
+
+  pub raw-limit : rawCost (places 64 w) ≤ 385
+  raw-limit = rawCost-limit 6 (places 64 w) (omega arith) (ascending-places 64 w) (below-places 64 w)
+
+  pub cleanup-limit : cost (cleanup (places 64 w)) ≤ 385
+  cleanup-limit = le-trans (cost-cleanup (places 64 w) (ascending-places 64 w)) raw-limit
+
+  pub inner-limit : (c : ℕ) → cost (cleanup (stripped c (places 64 w))) ≤ 385
+  unfolding stripped covered
+  inner-limit c =
+      let l = places 64 w in
+      let rises = ascending-stripped c l (ascending-places 64 w) in
+      let small = go (covered c l) (below-keep 64 _ (monomials l) (below-keep 64 _ l (below-places 64 w))) in
+      le-trans (cost-cleanup (stripped c l) rises) (rawCost-limit 6 (stripped c l) (omega arith) rises small)
+    where
+      go : (k : List ℕ) → Below 64 k → Below 64 (map (λ m. m - c) k)
+      go [] h = tt
+      go (m ∷ k) h = (omega (arith, h .0), go k (h .1))
+
+module _ (m : ℕ) (h : m < 64) where
+  pub product-limit : 0 < m → cost (cube m) ≤ 11
+  product-limit p = omega (arith, cost-cube m, termCost-suc m p, ones-le 6 m h)
+
+  pub chain-limit : cost (orChain m) ≤ 7
+  chain-limit = go (ltb 1 (ones m)) refl
+    where
+      go : (b : Bool) → ltb 1 (ones m) ≡ b → cost (orChain m) ≤ 7
+      go true e = omega (arith, ones-le 6 m h, cost-orChain m (ltb-true 1 (ones m) e))
+      go false e = omega (arith, cost-orChain-few m (ltb-false 1 (ones m) e))
+
+module _ (w m o : ℕ) (e : monomials (places 64 w) ≡ m ∷ o ∷ []) where
+  pub pair-bounds : (0 < m) × (m < o) × (o < 64)
+  pair-bounds =
+      let l = places 64 w in
+      let up : Ascending (m ∷ o ∷ []) = subst Ascending e (ascending-keep (ltb 0) l (ascending-places 64 w)) in
+      let low : Below 64 (m ∷ o ∷ []) = subst (Below 64) e (below-keep 64 (ltb 0) l (below-places 64 w)) in
+      let first = and-true-r (mem m l) (ltb 0 m) (sym (mem-keep (ltb 0) l m) ∙ ap (mem m) e ∙ mem-head m (o ∷ [])) in
+      (ltb-true 0 m first, up .0, low .1 .0)
+
+  pub pair-limit : (cost (cube m) ≤ 11) × (cost (cube (o - m)) ≤ 11)
+  pair-limit =
+      let b = pair-bounds in
+      (product-limit m (omega arith) (omega arith), product-limit (o - m) (omega arith) (omega arith))

@@ -1,0 +1,6 @@
+pub mod Bounds
+pub mod Candidates
+pub mod Rules
+pub mod Plans
+pub mod Cubes
+pub mod Saving

@@ -1,0 +1,200 @@
+// The cleanup's choice: which of document 01's rules gives the cheapest expression for a form, and at what cost, after `cleanup_anf` and
+// `find_best_factor` of `anf_cleanup.rs`. Nothing is written here. The cleanup and the best-cube search call each other, and the form's total
+// literals fall from one cleanup to the next. It rests on `form` and on the definitions of `rules`.
+use form::Form;
+ghost use mathlib.Core.Path.{_≡_};
+ghost use Prim.Native.Nat.{_<_};
+ghost use Rattle.form.specs.Masks.{masks, familyWords, supersetWords};
+ghost use Rattle.rules.specs.Cleanup as paper;
+ghost use Rattle.rules.specs.Form as raw;
+ghost use Rattle.rules.specs.Tree.{cost};
+ghost use Rattle.anf_cleanup.specs.Plan.{Planned, Cheaper, Improved, Stripped, Taken, Tried, Chosen};
+
+// The rule that wins: no monomials, the whole OR family, the raw form, or the candidate of rule 2, 3 or 4, with its mask.
+pub enum Choice {
+    Constant,
+    Family,
+    Raw,
+    Partial(usize),
+    Cube(usize),
+    Absorption,
+}
+
+pub struct Plan {
+    pub choice: Choice,
+    pub cost: usize,
+}
+
+// The best cube so far, 0 for none, with its saving and the cost of the cleaned inner form.
+pub struct Best {
+    pub cube: usize,
+    pub saving: usize,
+    pub inner: usize,
+}
+
+// The cost of a product, and of an OR chain, of the flags of a mask.
+pub fn product_cost(mask: usize) -> usize
+    requires { ⌜ (0 < mask) × (mask < 64) ⌝ }
+    ensures { λ r. ⌜ r ≡ cost (raw.cube mask) ⌝ }
+{
+    2 * (u64::count_ones(mask as u64) as usize) - 1
+}
+
+pub fn chain_cost(mask: usize) -> usize
+    requires { ⌜ (0 < mask) × (mask < 64) ⌝ }
+    ensures { λ r. ⌜ r ≡ cost (raw.orChain mask) ⌝ }
+{
+    let ones = u64::count_ones(mask as u64) as usize;
+    if ones < 2 {
+        return 1;
+    }
+    ones + 1
+}
+
+// The cheaper of the best so far and a candidate, which must be strictly cheaper.
+fn cheaper(best: Plan, choice: Choice, cost: usize) -> Plan
+    ensures { λ r. ⌜ Cheaper best choice cost r ⌝ }
+{
+    if cost < best.cost {
+        return Plan { choice, cost };
+    }
+    best
+}
+
+// The rule that wins for a form whose raw cost is `raw_cost`.
+pub fn cleanup(form: Form, raw_cost: usize, families: &[u64; 64], supersets: &[u64; 64]) -> Plan
+    requires { ⌜ («raw_cost» ≡ raw.rawCost (masks form)) × (now families ≡ familyWords) × (now supersets ≡ supersetWords) ⌝ }
+    ensures { λ r. ⌜ Planned (masks form) (paper.cleanup (masks form)) r ⌝ }
+{
+    if form.count() == 0 {
+        return Plan {
+            choice: Choice::Constant,
+            cost: 1,
+        };
+    }
+    if form.is_family(families) {
+        return Plan {
+            choice: Choice::Family,
+            cost: chain_cost(form.singles()) + 2 * form.constant(),
+        };
+    }
+    let first = Plan {
+        choice: Choice::Raw,
+        cost: raw_cost,
+    };
+    let second = partial_or(form, first, families, supersets);
+    let third = common_cube(form, second, families, supersets);
+    absorption(form, third)
+}
+
+// Rule 2: the chain of the best family, in XO with the cleaned remainder.
+fn partial_or(form: Form, best: Plan, families: &[u64; 64], supersets: &[u64; 64]) -> Plan
+    requires { ⌜ (now families ≡ familyWords) × (now supersets ≡ supersetWords) ⌝ }
+    ensures { λ r. ⌜ Improved (masks form) (paper.partialOr paper.cleanup (masks form)) best r ⌝ }
+{
+    let mask = form::search::best_family(form, families);
+    if mask == 0 {
+        return best;
+    }
+    let rest = form.without(mask, families);
+    let plan = cleanup(rest, rest.raw_cost(), families, supersets);
+    cheaper(
+        best,
+        Choice::Partial(mask),
+        chain_cost(mask) + plan.cost + 1,
+    )
+}
+
+// Rule 3: the product of the best cube and the cleaned inner form, in XO with the cleaned remainder unless that is empty.
+fn common_cube(form: Form, best: Plan, families: &[u64; 64], supersets: &[u64; 64]) -> Plan
+    requires { ⌜ (now families ≡ familyWords) × (now supersets ≡ supersetWords) ⌝ }
+    ensures { λ r. ⌜ Improved (masks form) (paper.commonCube paper.cleanup (masks form)) best r ⌝ }
+{
+    let found = best_cube(form, families, supersets);
+    let cube = found.cube;
+    if cube == 0 {
+        return best;
+    }
+    let factored = product_cost(cube) + found.inner + 1;
+    let rest = form.uncovered(cube, supersets);
+    if rest.is_empty() {
+        return cheaper(best, Choice::Cube(cube), factored);
+    }
+    let plan = cleanup(rest, rest.raw_cost(), families, supersets);
+    cheaper(best, Choice::Cube(cube), factored + plan.cost + 1)
+}
+
+// The cube of the greatest saving, the smallest of equal ones: every mask of flags that occur is tried in ascending order.
+fn best_cube(form: Form, families: &[u64; 64], supersets: &[u64; 64]) -> Best
+    requires { ⌜ (now families ≡ familyWords) × (now supersets ≡ supersetWords) ⌝ }
+    ensures { λ r. ⌜ Chosen (masks form) r ⌝ }
+{
+    let mut best = Best {
+        cube: 0,
+        saving: 0,
+        inner: 0,
+    };
+    let mut left = families[form.flags()];
+    while left != 0 {
+        let cube = u64::trailing_zeros(left) as usize;
+        best = try_cube(form, cube, best, families, supersets);
+        left = left & (left - 1);
+    }
+    best
+}
+
+// The best after one more mask, if that is a candidate cube: its inner form is cleaned for its cost.
+fn try_cube(
+    form: Form,
+    cube: usize,
+    best: Best,
+    families: &[u64; 64],
+    supersets: &[u64; 64],
+) -> Best
+    requires { ⌜ (now families ≡ familyWords) × (now supersets ≡ supersetWords) × (0 < cube) × (cube < 64) ⌝ }
+    ensures { λ r. ⌜ Tried (masks form) cube best r ⌝ }
+{
+    if !form::search::is_cube(form, cube, families, supersets) {
+        return best;
+    }
+    let inner = form.stripped(cube, supersets);
+    let raw_cost = inner.raw_cost();
+    let plan = cleanup(inner, raw_cost, families, supersets);
+    better(best, cube, inner, raw_cost, plan.cost)
+}
+
+// The cube where it saves strictly more than the best so far. The covered monomials have the inner form's literals and the cube's flags once each.
+fn better(best: Best, cube: usize, inner: Form, raw_cost: usize, cost: usize) -> Best
+    requires { ⌜ Stripped cube (masks inner) «raw_cost» cost ⌝ }
+    ensures { λ r. ⌜ Taken cube (masks inner) cost best r ⌝ }
+{
+    let flags = u64::count_ones(cube as u64) as usize;
+    let saving = raw_cost + 2 * flags * (u64::count_ones(inner.word) as usize - 1)
+        - 2 * inner.constant()
+        - cost;
+    if best.saving < saving {
+        return Best {
+            cube,
+            saving,
+            inner: cost,
+        };
+    }
+    best
+}
+
+// Rule 4: of two monomials of which one is a subset of the other, the smaller without the rest of the larger.
+fn absorption(form: Form, best: Plan) -> Plan
+    ensures { λ r. ⌜ Improved (masks form) (paper.absorption (masks form)) best r ⌝ }
+{
+    if form.count() != 2 {
+        return best;
+    }
+    let pair = form.pair();
+    let first = pair.first;
+    let second = pair.second;
+    if first & second != first {
+        return best;
+    }
+    let cost = product_cost(first) + product_cost(second - first) + 2 + 2 * form.constant();
+    cheaper(best, Choice::Absorption, cost)
+}

@@ -1,0 +1,95 @@
+-- The parts of a form that document 01 speaks of, made by operations on the form's word.
+-- It rests on the laws of words as sets of places (bits, Sets), on the tables' entries (Entries) and on the laws of covered monomials (rules, Covered).
+-- Assumes nothing.
+--   constant-word, count-word                    == the constant; how many monomials there are
+--   pair-positive, pair-word                     == the two monomials of a form that has two
+--   family-word                                  == whether the form is a whole family
+--   uncovered-word, without-word, stripped-word  == the masks that do not contain a cube, those outside a family, and those that contain a cube, stripped
+use mathlib.Core.Bool.{Bool, true, not, _&&_}
+use mathlib.Core.List.{List, [], _∷_, map}
+use mathlib.Core.Path.{_≡_, sym, ap, _∙_}
+use Prim.Native.Nat.{ℕ, _-_, _*_, _/_, _%_, _^_, _≤_, _<_}
+use native.Mathlib.Nat.{lt-of-le-of-lt}
+use native.Mathlib.Omega.{arith}
+use lib.Bits.{bitAnd, and-le-l}
+use lib.Count.{ones, ones-step, trailingZeros}
+use lib.Dec.{ltb, eqb}
+use lib.ListN.{length, getD}
+use Rattle.bits.specs.Bit.{bit, digit, within}
+use Rattle.bits.specs.Range.{keep, upto, mem, same}
+use Rattle.bits.specs.Word.{places, word}
+use Rattle.bits.proofs.Truth.{and-true-r}
+use Rattle.bits.proofs.Bit.{digit-bit, bit-lt, bit-and}
+use Rattle.bits.proofs.Mask.{within-le}
+use Rattle.bits.proofs.Range.{keep-ext}
+use Rattle.bits.proofs.Ascending.{below-mem}
+use Rattle.bits.proofs.Word.{below-places, ones-places}
+use Rattle.bits.proofs.Places.{places-and}
+use Rattle.bits.proofs.Sets.{mem-bit, places-and-not, places-even, places-shr, places-positive, places-two, same-places}
+use Rattle.rules.specs.Cleanup.{family, singles, isFamily, stripped}
+use Rattle.rules.specs.Monomial.{constant, monomials}
+use Rattle.rules.proofs.Covered.{covered-keep}
+use Rattle.rules.proofs.Family.{ascending-family}
+use Rattle.form.specs.Masks.{familyWords, supersetWords}
+use Rattle.form.proofs.Entries.{getD-families, getD-supersets, bit-family, below-family, family-lt, bit-superset, superset-lt}
+use Rattle.form.proofs.Flags.{singles-lt}
+
+module _ (w : ℕ) where
+  in-word : (m : ℕ) → mem m (places 64 w) ≡ true → m < 64
+  in-word m e = below-mem 64 (places 64 w) m (below-places 64 w) e
+
+  module _ (c : ℕ) (k : c < 64) where
+    pub uncovered-word : places 64 (bitAnd w ((2 ^ 64 - 1) - getD supersetWords c 0)) ≡ keep (λ m. not (within c m)) (places 64 w)
+    uncovered-word =
+        let v = word (keep (within c) (upto 64)) in
+        ap (λ (x : ℕ). places 64 (bitAnd w ((2 ^ 64 - 1) - x))) (getD-supersets c k) ∙ places-and-not 64 w v (superset-lt c)
+        ∙ keep-ext (λ m. not (bit v m)) (λ m. not (within c m)) (places 64 w) (λ m e. ap not (bit-superset c m (in-word m e)))
+
+    pub without-word : places 64 (bitAnd w ((2 ^ 64 - 1) - getD familyWords c 0)) ≡ keep (λ m. not (mem m (family c))) (places 64 w)
+    without-word =
+        let v = word (family c) in
+        ap (λ (x : ℕ). places 64 (bitAnd w ((2 ^ 64 - 1) - x))) (getD-families c k) ∙ places-and-not 64 w v (family-lt c k)
+        ∙ keep-ext (λ m. not (bit v m)) (λ m. not (mem m (family c))) (places 64 w) (λ m e. ap not (bit-family c m))
+
+module _ (w : ℕ) (h : w < 2 ^ 64) where
+  pub constant-word : w % 2 ≡ digit (constant (places 64 w))
+  constant-word = sym (ap digit (mem-bit 64 w 0 h) ∙ digit-bit w 0 ∙ omega arith)
+
+  small : w / 2 * 2 < 2 ^ 64
+  small = omega arith
+
+  pub count-word : ones (w / 2) ≡ length (monomials (places 64 w))
+  count-word =
+      let half : w / 2 * 2 / 2 ≡ w / 2 = omega arith in
+      omega (arith, ones-step (w / 2 * 2), ap ones half) ∙ ones-places 64 (w / 2 * 2) small ∙ ap length (places-even 64 w)
+
+  module _ (two : length (monomials (places 64 w)) ≡ 2) where
+    many : length (places 64 (w / 2 * 2)) ≡ 2
+    many = ap length (places-even 64 w) ∙ two
+
+    pub pair-positive : 0 < w / 2 * 2
+    pair-positive = places-positive 64 (w / 2 * 2) 1 small many
+
+    pub pair-word : monomials (places 64 w) ≡ trailingZeros 64 (w / 2 * 2) ∷ trailingZeros 64 (bitAnd (w / 2 * 2) (w / 2 * 2 - 1)) ∷ []
+    pair-word = sym (places-even 64 w) ∙ places-two 64 (w / 2 * 2) small many
+
+  pub family-word : (ltb 0 (singles (places 64 w)) && eqb (w / 2 * 2) (getD familyWords (singles (places 64 w)) 0)) ≡ isFamily (places 64 w)
+  unfolding isFamily
+  family-word =
+      let u = singles (places 64 w) in
+      let l = singles-lt w in
+      ap (λ (b : Bool). ltb 0 u && b)
+      (ap (eqb (w / 2 * 2)) (getD-families u l) ∙ sym (same-places 64 (w / 2 * 2) (family u) small (ascending-family u) (below-family u l))
+      ∙ ap (λ (r : List ℕ). same r (family u)) (places-even 64 w))
+
+  pub stripped-word : (c : ℕ) → 0 < c → c < 64 → places 64 (bitAnd w (getD supersetWords c 0) / 2 ^ c) ≡ stripped c (places 64 w)
+  unfolding stripped
+  stripped-word c p k =
+      let v = word (keep (within c) (upto 64)) in
+      let s : bitAnd w v < 2 ^ 64 = lt-of-le-of-lt (and-le-l w v) h in
+      let low : (i : ℕ) → bit (bitAnd w v) i ≡ true → c ≤ i =
+      λ i e. within-le c i (sym (bit-superset c i (bit-lt 64 (bitAnd w v) i s e)) ∙ and-true-r (bit w i) (bit v i) (sym (bit-and w v i) ∙ e)) in
+      ap (λ (x : ℕ). places 64 (bitAnd w x / 2 ^ c)) (getD-supersets c k) ∙ places-shr 64 (bitAnd w v) c s low
+      ∙ ap (map (λ m. m - c))
+      (places-and 64 w v ∙ keep-ext (bit v) (λ m. within c m) (places 64 w) (λ m e. bit-superset c m (in-word w m e))
+      ∙ sym (covered-keep c p (places 64 w)))
