@@ -141,9 +141,11 @@ loop-again c =
     let arity = c .before .before .before .arity in
     let base = l .depth - arity .result in
     let is = c .deeper .ensures ∙ ap (λ (k : ℕ). deepest k (getD (l .stack) base 0) (getD (l .stack) (base + 1) 0)) (arity .ensures) in
-    let next = costed-step (l .inv .0) depth-folds 0 (found (c .before .before .before .before .before)) (omega arith)
-    base (omega arith) (omega arith) (omega arith) (c .deeper .result) is (c .before .is-or .result) (c .before .is-or .ensures) in
-    (next, simp length-set (l .inv .1), simp length-set (l .inv .2))
+    let here = found (c .before .before .before .before .before) in (
+      costed-step (l .inv .0) depth-folds 0 here (omega arith) base (omega arith) (omega arith) (omega arith) _ is _ (c .before .is-or .ensures),
+      simp length-set (l .inv .1),
+      simp length-set (l .inv .2),
+    )
 
 refused-requires-2 : tie.Need-refused-requires-2 Inv-loop μ-loop
 refused-requires-2 c κs = search needs
