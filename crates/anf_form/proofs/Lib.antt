@@ -2,3 +2,4 @@ pub mod Flags
 pub mod Layer
 pub mod Runs
 pub mod Told
+pub mod Levels

@@ -76,7 +76,7 @@ fn of_degree(degree: usize, i: usize, word: u64) -> u64
 }
 
 // The masks below 64 that have that many ones, as a word.
-fn with_ones(count: usize) -> u64
+pub fn with_ones(count: usize) -> u64
     ensures { λ r. ⌜ r ≡ layer count ⌝ }
 {
     match count {
@@ -92,7 +92,7 @@ fn with_ones(count: usize) -> u64
 }
 
 // The masks of a word, counted from `base`, from place `at` of `out` on; the place after them.
-fn list_word(word: u64, base: usize, out: &mut [u32], at: usize) -> usize
+pub fn list_word(word: u64, base: usize, out: &mut [u32], at: usize) -> usize
     requires { ⌜ (base ≤ 65536) × (at + length (places 64 word) ≤ length (now out)) ⌝ }
     ensures { λ r. ⌜ Stored (now (out .entry)) at (map (λ j. base + j) (places 64 word)) (now (out .exit)) r ⌝ }
 {

@@ -10,10 +10,13 @@ use rules::SHORT_OUTPUT;
 use rules::STRAY_COEFFICIENT;
 use rules::TOO_MANY_FLAGS;
 ghost use mathlib.Core.Path.{_≡_};
+ghost use Prim.Native.Nat.{ℕ, _≤_, _<_, _^_};
 ghost use lib.ListN.{length};
+ghost use lib.Seq.{sets};
 ghost use Rattle.bits.specs.Word.{places};
 ghost use Rattle.rules.specs.Calls;
 ghost use Rattle.rules.specs.Form as paper;
+ghost use Rattle.rules.specs.Monomial.{ordered};
 ghost use Rattle.rules.specs.Outcome.{left, gives, _then_};
 ghost use Rattle.anf_form.specs.Answers.{listingOf, rawCostOf};
 
@@ -114,4 +117,17 @@ pub fn literals(word: u64) -> usize
         + degree::ones(word & 0xff00_ff00_ff00_ff00)
         + degree::ones(word & 0xffff_0000_ffff_0000)
         + degree::ones(word & 0xffff_ffff_0000_0000)
+}
+
+// All terms of the form of six flags that a word holds, at the front of `out`, by count of ones, then mask: the constant 1 is the mask 0 and comes
+// first. It answers how many there are.
+pub fn terms(word: u64, out: &mut [u32]) -> usize
+    requires { ⌜ length (places 64 word) ≤ length (now out) ⌝ }
+    ensures { λ r. ⌜ (r ≡ length (places 64 word)) × (now (out .exit) ≡ sets (now (out .entry)) 0 (ordered (places 64 word))) ⌝ }
+{
+    let mut at = 0;
+    for count in 0..7 {
+        at = degree::list_word(word & degree::with_ones(count), 0, out, at);
+    }
+    at
 }

@@ -2,8 +2,8 @@
 -- (Ascending). Assumes nothing.
 --   places-chosen    == the places of the number whose places a test chose
 --   places-mod       == the places of the k low digits
-use mathlib.Core.Bool.{Bool, true}
-use mathlib.Core.Path.{_≡_, refl, ap, _∙_}
+use mathlib.Core.Bool.{Bool}
+use mathlib.Core.Path.{_≡_, ap, _∙_}
 use Prim.Native.Nat.{ℕ, _%_, _^_, _≤_}
 use native.Mathlib.Nat.{mod-lt, lt-of-lt-of-le}
 use lib.Pow.{pow-pos}

@@ -1,5 +1,5 @@
 -- Laws of lanes: the operations on whole words are those of the records in every lane at once. They rest on the laws of bits and words (bits, Bit
--- and Word) and on `value` of rules' Tree. Assumes nothing.
+-- and Word), on `value` of rules' Tree and, for the walk, on the laws of expr's Costed. Assumes nothing.
 --   bit-lane, lane-lt        == a lane's setting: its flags are the words' bits, and it is below 2 ^ n
 --   bit-lanes, lanes-lt      == a tree's lanes: its values, in 64 bits
 --   lanes-ext                == a word with the tree's values is the tree's lanes

@@ -4,8 +4,8 @@
 --   the bytes are well formed: 1 to 385 records, no operator lacks operands, and one operand is left at the end;
 --   the expression's value is the table's bit at every setting;
 --   the expression costs no more than the raw form of the table's polynomial, and c is its cost.
--- `Accepted n table s c` of rules' Accepts is the record of these. It rests on the promise of `examine`, its answer is document 01's `examine`, and
--- on the laws of Accepts and WellFormed (rules). Assumes nothing.
+-- `Accepted n table s c` of rules' Accepts is the record of these. It rests on the promise of `examine`, that its answer is document 01's `examine`,
+-- and on the laws of Accepts and WellFormed (rules). Assumes nothing.
 --   accepts-exactly      == on paper: document 01's examination gives c exactly there
 --   answers-exactly      == in code: what keeps the promise of `examine` answers `Accepted(c)` exactly there
 --   Faithful             == the same with the tree that the bytes are written as, and no machine that reads them

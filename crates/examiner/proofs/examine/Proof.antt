@@ -4,6 +4,7 @@ use mathlib.Core.Path.{sym, ap, _∙_}
 use Prim.Native.Nat.{ℕ, _^_}
 use native.Mathlib.Omega.{arith}
 use denote.Ref.{now}
+use borrow.Author.Needs.{needs}
 use Rattle.bits.specs.Bit.{bit}
 use Rattle.bits.proofs.Word.{bit-word-keep}
 use Rattle.rules.specs.Limits.{ruleFlags}
@@ -11,7 +12,6 @@ use Rattle.rules.specs.Table.{entry}
 use Rattle.rules.proofs.Checked.{table-flags, table-short, table-complete}
 use Rattle.examiner.specs.Answer.{examinationOf}
 use Rattle.examiner.proofs.Examined.{examine-bits, examineBits-ext}
-use borrow.Author.Needs.{needs}
 use Rattle.examiner.proofs.examine.Statement.{statement}
 use Rattle.examiner.proofs.examine.Tie as tie
 

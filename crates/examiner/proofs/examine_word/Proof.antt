@@ -2,6 +2,7 @@
 -- (Examined). Assumes nothing.
 use mathlib.Core.Path.{_≡_, sym, ap, _∙_}
 use denote.Ref.{now}
+use borrow.Author.Needs.{needs}
 use Rattle.bits.specs.Bit.{bit}
 use Rattle.rules.specs.Outcome.{Outcome, _then_}
 use Rattle.examiner.specs.declared.lanes.Seen.{Seen}
@@ -9,7 +10,6 @@ use Rattle.examiner.specs.declared.lanes.Walked.{Walked}
 use Rattle.examiner.specs.Examined.{judgment, examineBits}
 use Rattle.examiner.specs.Lanes.{walkedOf}
 use Rattle.examiner.proofs.Examined.{examine-walked}
-use borrow.Author.Needs.{needs}
 use Rattle.examiner.proofs.examine_word.Statement.{statement}
 use Rattle.examiner.proofs.examine_word.Tie as tie
 

@@ -55,6 +55,13 @@ anf-word-requires c κs = search needs
 raw-cost-requires : tie.Need-raw-cost-requires
 raw-cost-requires c κs = search needs
 
+returns-3 : tie.Need-returns-3
+unfolding judgment
+returns-3 c =
+    let r = c .before in
+    let d = r .before .before in
+    sym (verdict-accepts _ _ _ _ (apart (d .before)) (d .if1 .left) (omega (arith, raw r)))
+
 refused-requires-2 : tie.Need-refused-requires-2
 refused-requires-2 c κs = search needs
 
@@ -65,13 +72,6 @@ returns-2 c =
     let d = r .before .before in
     ap examinationOf (c .refused2 .ensures)
     ∙ sym (verdict-costly _ _ _ _ (apart (d .before)) (d .if1 .left) (omega (arith, raw r)))
-
-returns-3 : tie.Need-returns-3
-unfolding judgment
-returns-3 c =
-    let r = c .before in
-    let d = r .before .before in
-    sym (verdict-accepts _ _ _ _ (apart (d .before)) (d .if1 .left) (omega (arith, raw r)))
 
 pub judge-spec : {M : Type 1} → statement M
 judge-spec =

@@ -1,5 +1,5 @@
 -- `anf_transform::rule::anf_word` meets its contract: the low bits of the transformed word are the coefficients (InWord). Assumes nothing.
-use mathlib.Core.Path.{_≡_, sym, ap, _∙_}
+use mathlib.Core.Path.{_≡_, ap, _∙_}
 use Prim.Native.Nat.{ℕ, _%_, _^_}
 use native.Mathlib.Omega.{arith}
 use borrow.Author.Needs.{needs}

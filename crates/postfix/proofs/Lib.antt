@@ -1,0 +1,5 @@
+pub mod Put
+pub mod Writes
+pub mod Chains
+pub mod Links
+pub mod Terms
