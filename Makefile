@@ -1,23 +1,37 @@
 # What can be done here; `make` alone lists it.
-.PHONY: help test print_rule bench compare
+.PHONY: help test print_rule console bench compare
 .DEFAULT_GOAL := help
+
+TABLE = 0111
+log = target/make.log
+have_rt = command -v rt >/dev/null || { echo "needs rt, the Rattle toolchain's command, on the PATH"; exit 1; }
+have_cc = command -v cc >/dev/null || { echo "needs cc, a C compiler, on the PATH"; exit 1; }
+# Long output of a step that should pass goes to a file, which is shown where it does not.
+quiet = mkdir -p target && { $(1) >$(log) 2>&1 || { tail -n 40 $(log); exit 1; }; }
 
 help: ## list these commands
 	@sed -n 's/^\([a-z_]*\):[^#]*## /\1\t/p' $(MAKEFILE_LIST) | expand -t 14
 
-have_rt = command -v rt >/dev/null || { echo "needs rt, the Rattle toolchain's command, on the PATH"; exit 1; }
-
-test: ## prove every crate, try the must-fail edits, run the recorded cases; the last line counts them
-	@$(have_rt)
+test: console ## prove every crate, try the must-fail edits, run the recorded cases; the last line counts them
 	@rt fmt --check
 	@rt ci
 
 print_rule: ## print the expression of a rule table: TABLE=0111
-	@test -d crates/print_rule || { echo "print_rule comes with the compiler, which is not here yet"; exit 1; }
+	@$(have_rt)
+	@$(call quiet,rt check print_rule)
+	@printf '%s\n' '$(TABLE)' | target/bin/print_rule
 
-bench: ## measure beside the original Rust: RUST=folder of its sources
-	@test -d bench || { echo "bench comes with the compiler, which is not here yet"; exit 1; }
+console: ## build the console's library and run the C example over include/console.h, under valgrind where that is installed
+	@$(have_rt)
+	@$(have_cc)
+	@$(call quiet,rt staticlib console)
+	@cc -std=c99 -Wall -Wextra -Werror -Iinclude examples/console.c target/staticlib/libconsole.a -o target/console
+	@if command -v valgrind >/dev/null; then valgrind -q --error-exitcode=1 target/console; else target/console; fi >target/console.out
+	@cmp target/console.out examples/console.expected && cat target/console.out
 
+bench: ## measure beside the original Rust and write docs/BENCHMARK.md: RUST=folder of its sources
+	@$(have_rt)
+	@bench/bench.sh "$(RUST)"
 
 compare: ## make the recorded answers anew from the original Rust and compare: RUST=folder of its sources
 	@oracle/compare.sh "$(RUST)"

@@ -17,7 +17,7 @@ unfoldable pub entries : List ℕ → List ℕ
 entries b = map (entryAt b) (upto (length b / 8))
 
 -- "one returns the number, 0 for none, the other the result or the place"
-abbrev pub number : Outcome ℕ → ℕ
+abbrev pub number : {A : Type 0} → Outcome A → ℕ
 number (gives a) = 0
 number (refuses k p) = k
 
