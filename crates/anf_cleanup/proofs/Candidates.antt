@@ -3,7 +3,8 @@
 -- the candidates (rules, Recursion), the literals of parts (rules, Literals) and the bounds of a form in one word (Bounds). Assumes nothing.
 --   family-many, family-fewer, family-limit    == where rule 2 chooses the mask m: three monomials; the remainder has fewer literals; m and its chain
 --   isCube-many, isCube-fewer, isCube-within   == a candidate cube covers two monomials; its stripped form has fewer literals; its flags occur
---   cube-many, cube-fewer, cube-limit          == where rule 3 chooses the cube c: two monomials; the remainder has fewer literals; c and its product
+--   cube-many, cube-fewer, inner-fewer         == where rule 3 chooses the cube c: two monomials; the remainder and the stripped form have fewer literals
+--   cube-below, cube-limit                     == and c is below 64; with its product
 use mathlib.Core.Bool.{true, not, _&&_, _||_}
 use mathlib.Core.List.{List, [], _∷_}
 use mathlib.Core.Path.{_≡_, sym, ap, subst, _∙_}
@@ -114,10 +115,16 @@ module _ (l : List ℕ) (c : ℕ) (e : c ≡ bestCube cleanup l) (p : 0 < c) whe
   cube-fewer k q =
       subst (λ (x : List ℕ). literals x < literals l) (sym q) (literals-uncovered c l p (omega (arith, cubes-mem l c candidate .1)))
 
+  pub inner-fewer : (k : List ℕ) → k ≡ stripped c l → literals k < literals l
+  inner-fewer k q = subst (λ (x : List ℕ). literals x < literals l) (sym q) (literals-stripped c l p (omega (arith, cubes-mem l c candidate .1)))
+
+pub cube-below : (w c : ℕ) → c ≡ bestCube cleanup (places 64 w) → 0 < c → c < 64
+cube-below w c e p =
+    let l = places 64 w in
+    let test = and-true-r (mem c (from 1 (union l))) (isCube l c) (sym (mem-keep (isCube l) (from 1 (union l)) c) ∙ candidate l c e p) in
+    lt-of-le-of-lt (within-le c (union l) (isCube-within l c test)) (flags-below w)
+
 pub cube-limit : (w : ℕ) (b : Best) → Chosen (places 64 w) b → 0 < b .cube → (b .cube < 64) × (cost (cube (b .cube)) + b .inner ≤ 396)
 cube-limit w b h p =
-    let l = places 64 w in
-    let c = b .cube in
-    let test = and-true-r (mem c (from 1 (union l))) (isCube l c) (sym (mem-keep (isCube l) (from 1 (union l)) c) ∙ candidate l c (h .best) p) in
-    let small = lt-of-le-of-lt (within-le c (union l) (isCube-within l c test)) (flags-below w) in
-    (small, omega (arith, product-limit c small p, h .inner p, inner-limit w c))
+    let small = cube-below w (b .cube) (h .best) p in
+    (small, omega (arith, product-limit (b .cube) small p, h .inner p, inner-limit w (b .cube)))

@@ -23,7 +23,7 @@ use Rattle.rules.specs.Form.{cube, orChain, rawForm, rawCost}
 use Rattle.rules.specs.Monomial.{constant, monomials}
 use Rattle.rules.specs.Tree.{Tree, AN, NO, cost}
 use Rattle.rules.proofs.Cost.{cost-rawForm}
-use Rattle.anf_cleanup.specs.Plan.{built, Planned, Cheaper, Improved}
+use Rattle.anf_cleanup.specs.Plan.{built, Allowed, Planned, Cheaper, Improved}
 use Rattle.anf_cleanup.specs.declared.Choice.{Choice}
 use Rattle.anf_cleanup.specs.declared.Choice.the-variants.{Constant, Family, Raw, Partial, Cube, Absorption}
 use Rattle.anf_cleanup.specs.declared.Plan.{Plan}
@@ -41,11 +41,11 @@ module _ (l : List ℕ) (t u : Tree) (p q : Plan) (h : Planned l t p) (k : Plann
   planned-kept i = subst (λ (x : Tree). Planned l x p) (sym (decided false (le-ltb (cost u) (cost t) (omega (arith, h .costs, k .costs))))) h
 
 module _ (l : List ℕ) (c : Choice) (n : ℕ) (k : n ≡ cost (built c l)) where
-  pub planned-chosen : (t : Tree) → t ≡ built c l → Planned l t (record { choice = c; cost = n })
-  planned-chosen t e = record { makes = sym e; costs = k ∙ ap cost (sym e) }
+  pub planned-chosen : (t : Tree) → t ≡ built c l → Allowed c l → Planned l t (record { choice = c; cost = n })
+  planned-chosen t e a = record { makes = sym e; costs = k ∙ ap cost (sym e); allowed = a }
 
-  pub improved-one : (us : List Tree) (p q : Plan) → us ≡ built c l ∷ [] → Cheaper p c n q → Improved l us p q
-  improved-one us p q e better t h = rw e (better l t (built c l) h (planned-chosen (built c l) refl))
+  pub improved-one : (us : List Tree) (p q : Plan) → us ≡ built c l ∷ [] → Cheaper p c n q → Allowed c l → Improved l us p q
+  improved-one us p q e better a t h = rw e (better l t (built c l) h (planned-chosen (built c l) refl a))
 
 pub improved-none : (l : List ℕ) (us : List Tree) (p : Plan) → us ≡ [] → Improved l us p p
 improved-none l us p e t h = rw e h

@@ -1,6 +1,7 @@
 -- A plan: which rule wins for a form, and at what cost.
 --   built c l            == the tree that the choice c makes of the form l
---   Planned l t p        == the plan p makes the tree t of the form l, and tells its cost
+--   Allowed c l          == what the choice c supposes of the form l: that its rule applies, with the mask that the rule chooses
+--   Planned l t p        == the plan p makes the tree t of the form l, by a rule that applies, and tells its cost
 --   Cheaper p c n q      == q is the cheaper of the plan p and of the choice c at the cost n, and p where they cost the same
 --   Improved l us p q    == where p plans the best tree so far, q plans the best after the candidates us
 --   tried l b c          == document 01's best after the mask c is tried, where b was the best before
@@ -15,7 +16,7 @@ use Prim.Native.Nat.{ℕ, _<_, _≤_}
 use lib.ListN.{length}
 use Rattle.bits.specs.Bit.{within}
 use Rattle.bits.specs.Range.{keep, mem, Ascending}
-use Rattle.rules.specs.Cleanup.{cleanup, family, singles, atop, withRest, stripped, absorption, cheaper, isCube, cubeSaving, better, bestCube}
+use Rattle.rules.specs.Cleanup.{cleanup, family, singles, atop, isFamily, bestFamily, withRest, stripped, absorption, cheaper, isCube, cubeSaving, better, bestCube}
 use Rattle.rules.specs.Cleanup as paper
 use Rattle.rules.specs.Form.{cube, orChain, rawForm, rawCost}
 use Rattle.rules.specs.Monomial.{constant}
@@ -38,9 +39,18 @@ built (Partial m) l = XO (orChain m) (cleanup (keep (λ x. not (mem x (family m)
 built (Cube c) l = withRest cleanup (AN (cube c) (cleanup (stripped c l))) (keep (λ m. not (within c m)) l)
 built Absorption l = only (rawForm l) (absorption l)
 
+abbrev pub Allowed : Choice → List ℕ → Type 0
+Allowed Constant l = Unit
+Allowed Family l = isFamily l ≡ true
+Allowed Raw l = Unit
+Allowed (Partial m) l = (0 < m) × (m ≡ bestFamily l)
+Allowed (Cube c) l = (0 < c) × (c ≡ bestCube cleanup l)
+Allowed Absorption l = absorption l ≡ built Absorption l ∷ []
+
 pub record Planned (l : List ℕ) (t : Tree) (p : Plan) : Type 0 where
   pub makes : built (p .choice) l ≡ t
   pub costs : p .cost ≡ cost t
+  pub allowed : Allowed (p .choice) l
 
 -- the candidate takes the best's place only where it is strictly cheaper
 abbrev pub Cheaper : Plan → Choice → ℕ → Plan → Type 0

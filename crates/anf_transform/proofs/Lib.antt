@@ -2,7 +2,6 @@ pub mod Flag
 pub mod InWord
 pub mod Change
 pub mod AcrossWords
-pub mod Stores
 pub mod Words
 pub mod Unpacked
 pub mod Told

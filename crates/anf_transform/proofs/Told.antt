@@ -10,7 +10,7 @@ use lib.Seq.{sets}
 use Rattle.rules.specs.Outcome.{Outcome, gives, refuses, left}
 use Rattle.anf_transform.specs.Filled.{told}
 use Rattle.anf_transform.specs.declared.Filled.the-variants.{Entries, Refused}
-use Rattle.anf_transform.proofs.Stores.{take-sets-front}
+use Rattle.bits.proofs.Stores.{take-sets-front}
 
 pub told-refusal : (out : List ℕ) (o : Outcome (List ℕ)) (k p : ℕ) → o ≡ refuses k p → (told out (Refused record { number = k; place = p }) ≡ o) × (out ≡ left out o)
 told-refusal out o k p e = (sym e, ap (left out) (sym e))

@@ -15,9 +15,10 @@ use Rattle.bits.specs.Bit.{bit, digit}
 use Rattle.bits.specs.Range.{from, upto}
 use Rattle.bits.proofs.Range.{from-add, from-map}
 use Rattle.rules.specs.Coefficient.{wordCount, packed}
-use Rattle.rules.proofs.Packed.{wordCount-room, length-map-upto, getD-map-upto, map-upto-of, packed-at}
+use Rattle.bits.proofs.Tabulated.{length-map-upto, getD-map-upto, map-upto-of}
+use Rattle.rules.proofs.Packed.{wordCount-room, packed-at}
 use Rattle.packed_anf.proofs.Room.{Room, room}
-use Rattle.anf_transform.proofs.Stores.{sets-before, getD-sets-before}
+use Rattle.bits.proofs.Stores.{sets-before, getD-sets-before}
 
 module _ (n : ℕ) (l : List ℕ) where
   -- k entries from place a on

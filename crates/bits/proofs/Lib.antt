@@ -20,3 +20,4 @@ pub mod Sets
 pub mod Union
 pub mod Disjoint
 pub mod Chosen
+pub mod Tabulated

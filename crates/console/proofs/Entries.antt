@@ -15,7 +15,7 @@ use Rattle.bits.specs.Sum.{sum, total}
 use Rattle.bits.proofs.Bit.{bit-first}
 use Rattle.rules.specs.Console.{entryAt, entries}
 use Rattle.rules.specs.Table.{entry}
-use Rattle.rules.proofs.Packed.{length-map-upto, getD-map-upto}
+use Rattle.bits.proofs.Tabulated.{length-map-upto, getD-map-upto}
 
 pub length-entries : (b : List ℕ) → length (entries b) ≡ length b / 8
 unfolding entries

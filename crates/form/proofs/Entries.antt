@@ -16,7 +16,7 @@ use Rattle.bits.proofs.Ascending.{mem-below}
 use Rattle.bits.proofs.Word.{bit-word, word-lt, places-word, bit-word-keep, word-keep-lt}
 use Rattle.rules.specs.Cleanup.{family}
 use Rattle.rules.proofs.Family.{mem-family, ascending-family}
-use Rattle.rules.proofs.Packed.{getD-map-upto}
+use Rattle.bits.proofs.Tabulated.{getD-map-upto}
 use Rattle.form.specs.Masks.{familyWords, supersetWords}
 
 module _ (u : ℕ) where

@@ -1,6 +1,5 @@
 -- Coefficient words: how many there are, which bit of which word a coefficient is, and that words with the right bits are the words.
 -- It rests on the laws of words and of ranges (bits, Word and Range). Assumes nothing.
---   length-map-upto, getD-map-upto, map-upto-of         == a list with one entry for each number of a range
 --   wordCount-small, wordCount-large, wordCount-room, wordCount-pos == the number of words
 --   bit-wordOf, wordOf-lt, packed-at                    == one word's bits, and the coefficients that one word holds
 --   length-words, getD-words                            == the list of words, entry by entry
@@ -23,26 +22,9 @@ use Rattle.bits.specs.Range.{from, upto}
 use Rattle.bits.proofs.Truth.{and-intro, and-true-l}
 use Rattle.bits.proofs.Range.{length-from, getD-upto, mem-from, any-mem, mem-any}
 use Rattle.bits.proofs.Bit.{bit-zero}
+use Rattle.bits.proofs.Tabulated.{length-map-upto, getD-map-upto, map-upto-of}
 use Rattle.bits.proofs.Word.{bit-word-keep, word-keep-lt, word-ext}
 use Rattle.rules.specs.Coefficient.{wordCount, packed, stray, wordOf, words}
-
--- ---- one entry for each number of a range
-
-getD-map : (g : ℕ → ℕ) (l : List ℕ) (i : ℕ) → i < length l → getD (map g l) i 0 ≡ g (getD l i 0)
-getD-map g [] i h = absurd (omega arith)
-getD-map g (x ∷ l) zero h = refl
-getD-map g (x ∷ l) (suc i) h = getD-map g l i (omega arith)
-
-module _ (k : ℕ) (g : ℕ → ℕ) where
-  pub length-map-upto : length (map g (upto k)) ≡ k
-  length-map-upto = length-map (upto k) g ∙ length-from 0 k
-
-  pub getD-map-upto : (i : ℕ) → i < k → getD (map g (upto k)) i 0 ≡ g i
-  getD-map-upto i h = getD-map g (upto k) i (omega (arith, length-from 0 k)) ∙ ap g (getD-upto k i 0 h)
-
-pub map-upto-of : (k : ℕ) (g : ℕ → ℕ) (l : List ℕ) → length l ≡ k → ((i : ℕ) → i < k → getD l i 0 ≡ g i) → l ≡ map g (upto k)
-map-upto-of k g l e h =
-    ext-getD 0 l (map g (upto k)) (e ∙ sym (length-map-upto k g)) (λ i l. let s : i < k = omega arith in h i s ∙ sym (getD-map-upto k g i s))
 
 -- ---- how many
 

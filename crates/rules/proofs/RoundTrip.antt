@@ -22,7 +22,8 @@ use Rattle.rules.specs.Polynomial.{polynomial}
 use Rattle.rules.specs.Table.{settings, entry, complete}
 use Rattle.rules.proofs.Mobius.{coefficient-ext, coefficient-twice}
 use Rattle.rules.proofs.Outcome.{gives-same, refuse-gives}
-use Rattle.rules.proofs.Packed.{length-map-upto, getD-map-upto, map-upto-of, length-words, packed-words, stray-words, words-ext, words-packed}
+use Rattle.bits.proofs.Tabulated.{length-map-upto, getD-map-upto, map-upto-of}
+use Rattle.rules.proofs.Packed.{length-words, packed-words, stray-words, words-ext, words-packed}
 use Rattle.rules.proofs.Zhegalkin.{polynomial-coefficient, polynomial-unique}
 
 -- ---- rows

@@ -62,7 +62,7 @@ returns-3 c =
     let e = tested .before .pair .ensures in
     let h = tested .if2 .left in
     improved-one _ _ _ (cost-absorption _ _ _ _ _ _ e h (first .product-cost .ensures) (second .product-cost2 .ensures) (costed .constant .ensures)) _ _ _
-    (absorption-some _ _ _ e h) (c .cheaper .ensures)
+    (absorption-some _ _ _ e h) (c .cheaper .ensures) (absorption-some _ _ _ e h)
 
 pub absorption-spec : {M : Type 1} → statement M
 absorption-spec =

@@ -14,7 +14,7 @@ use Rattle.rules.specs.Outcome.{Outcome, gives, refuses}
 use Rattle.rules.specs.Table.{entry}
 use Rattle.rules.proofs.Checked.{table-flags, table-short, table-complete, room-short, room-enough}
 use Rattle.rules.proofs.Packed.{length-words}
-use Rattle.anf_transform.proofs.Stores.{sets-front}
+use Rattle.bits.proofs.Stores.{sets-front}
 use Rattle.anf_transform.proofs.Told.{told-refusal, told-result}
 use Rattle.anf_transform.proofs.compute_anf.Statement.{statement}
 use Rattle.anf_transform.proofs.compute_anf.Tie as tie

@@ -13,7 +13,7 @@ use Rattle.rules.specs.Limits.{formFlags}
 use Rattle.rules.specs.Outcome.{Outcome, gives, refuses}
 use Rattle.rules.specs.Table.{settings}
 use Rattle.rules.proofs.Checked.{coefficients-flags, coefficients-short, coefficients-stray, coefficients-clean, room-short, room-enough}
-use Rattle.rules.proofs.Packed.{length-map-upto}
+use Rattle.bits.proofs.Tabulated.{length-map-upto}
 use Rattle.anf_transform.proofs.Told.{told-refusal, told-result}
 use Rattle.anf_transform.proofs.compute_table.Statement.{statement}
 use Rattle.anf_transform.proofs.compute_table.Tie as tie

@@ -11,9 +11,10 @@ use Rattle.bits.specs.Bit.{digit}
 use Rattle.bits.specs.Range.{upto}
 use Rattle.rules.specs.Coefficient.{coefficient, wordCount, packed}
 use Rattle.rules.proofs.Mobius.{coefficient-ext}
-use Rattle.rules.proofs.Packed.{length-map-upto}
+use Rattle.bits.proofs.Tabulated.{length-map-upto}
 use Rattle.packed_anf.proofs.Room.{wordCount-le}
-use Rattle.anf_transform.proofs.Stores.{sets-over, map-upto-ext}
+use Rattle.bits.proofs.Stores.{sets-over}
+use Rattle.bits.proofs.Tabulated.{map-upto-ext}
 use Rattle.anf_transform.proofs.Words.{packed-append, packed-take}
 use Rattle.anf_transform.proofs.transform_back.Statement.{statement}
 use Rattle.anf_transform.proofs.transform_back.Tie as tie

@@ -20,7 +20,7 @@ module _ (t : ℕ) where
   count-requires c κs = tt
 
   returns : lts.Need-returns (calls t) (at t) reads.Post
-  returns c = planned-chosen _ Constant _ (cost-constant _) _ (cleanup-constant _ (sym (c .before .count .ensures) ∙ c .if1 .taken))
+  returns c = planned-chosen _ Constant _ (cost-constant _) _ (cleanup-constant _ (sym (c .before .count .ensures) ∙ c .if1 .taken)) tt
 
   is-family-requires : lts.Need-is-family-requires (calls t) (at t) reads.Post
   is-family-requires c κs = c .before .before .pre .1 .1
@@ -51,8 +51,9 @@ module _ (t : ℕ) where
       let single = c .before .before in
       let taken = single .before in
       let counted = taken .before .before in
+      let whole = sym (taken .before .is-family .ensures) ∙ taken .if2 .taken in
       planned-chosen _ Family _ (cost-family _ _ _ _ (single .singles .ensures) (c .before .chain-cost .ensures) (c .constant .ensures)) _
-      (cleanup-family _ (λ e. counted .if1 .left (counted .before .count .ensures ∙ e)) (sym (taken .before .is-family .ensures) ∙ taken .if2 .taken))
+      (cleanup-family _ (λ e. counted .if1 .left (counted .before .count .ensures ∙ e)) whole) whole
 
   partial-or-requires : lts.Need-partial-or-requires (calls t) (at t) reads.Post
   partial-or-requires c κs = search needs
@@ -70,7 +71,7 @@ module _ (t : ℕ) where
       let counted = left .before .before in
       let start = counted .before .before in
       planned-contest _ _ _ _ _ (λ e. counted .if1 .left (counted .before .count .ensures ∙ e)) (sym (left .before .is-family .ensures) ∙ left .if2 .left)
-      (planned-chosen _ Raw _ (cost-raw _ _ (start .pre .1 .0)) _ refl) (second .partial-or .ensures) (c .before .common-cube .ensures) (c .absorption .ensures)
+      (planned-chosen _ Raw _ (cost-raw _ _ (start .pre .1 .0)) _ refl tt) (second .partial-or .ensures) (c .before .common-cube .ensures) (c .absorption .ensures)
 
   pub spec : {M : Type 1} → lts.Closed (calls t) (at t) reads.Post M
   spec =

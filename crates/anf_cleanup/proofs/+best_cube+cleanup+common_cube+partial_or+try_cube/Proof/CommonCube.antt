@@ -52,7 +52,7 @@ module _ (t : ℕ) where
       let none = eqb-true _ 0 (sym (empty .is-empty .ensures) ∙ c .before .if2 .taken) in
       improved-one _ _ _
       (cost-whole _ _ _ _ (product .product-cost .ensures) (found .best-cube .ensures .inner (omega arith)) _ (rest .uncovered .ensures) none) _ _ _
-      (commonCube-some _ _ (found .best-cube .ensures .best) (omega arith)) (c .cheaper .ensures)
+      (commonCube-some _ _ (found .best-cube .ensures .best) (omega arith)) (c .cheaper .ensures) (omega arith, found .best-cube .ensures .best)
 
   raw-cost-requires : lts.Need-raw-cost-requires (calls t) (at t) reads.Post
   raw-cost-requires c κs = tt
@@ -100,7 +100,7 @@ module _ (t : ℕ) where
       let found = product .before .before in
       improved-one _ _ _ (cost-rest _ _ _ _ (product .product-cost .ensures) (found .best-cube .ensures .inner (omega arith)) _ (rest .uncovered .ensures) _
       (eqb-false _ 0 (sym (empty .is-empty .ensures) ∙ some .if2 .left)) (cleaned .cleanup .ensures .costs)) _ _ _
-      (commonCube-some _ _ (found .best-cube .ensures .best) (omega arith)) (c .cheaper2 .ensures)
+      (commonCube-some _ _ (found .best-cube .ensures .best) (omega arith)) (c .cheaper2 .ensures) (omega arith, found .best-cube .ensures .best)
 
   pub spec : {M : Type 1} → lts.Closed (calls t) (at t) reads.Post M
   spec =

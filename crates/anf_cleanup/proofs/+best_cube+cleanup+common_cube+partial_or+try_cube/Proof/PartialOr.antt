@@ -71,7 +71,7 @@ module _ (t : ℕ) where
       let rest = cleaned .before .before in
       let found = rest .before .before in
       improved-one _ _ _ (cost-partial _ _ _ _ _ (rest .without .ensures) (chain .chain-cost .ensures) (cleaned .cleanup .ensures .costs)) _ _ _
-      (partialOr-some _ _ (found .best-family .ensures) (omega arith)) (c .cheaper .ensures)
+      (partialOr-some _ _ (found .best-family .ensures) (omega arith)) (c .cheaper .ensures) (omega arith, found .best-family .ensures)
 
   pub spec : {M : Type 1} → lts.Closed (calls t) (at t) reads.Post M
   spec =

@@ -5,7 +5,7 @@ use Prim.Native.Nat.{ℕ, _-_, _≤_}
 use native.Mathlib.Omega.{arith}
 use borrow.Author.Needs.{needs}
 use lib.ListN.{length, take, getD, length-set}
-use Rattle.anf_transform.proofs.Stores.{front-more, front-all}
+use Rattle.bits.proofs.Stores.{front-more, front-all}
 use Rattle.anf_transform.proofs.pack.copy.Statement.{statement}
 use Rattle.anf_transform.proofs.pack.copy.Tie as tie
 

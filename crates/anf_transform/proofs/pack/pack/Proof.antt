@@ -12,7 +12,7 @@ use Rattle.bits.specs.Word.{word}
 use Rattle.rules.specs.Coefficient.{wordCount, words}
 use Rattle.rules.specs.Table.{entry}
 use Rattle.rules.proofs.Packed.{length-words}
-use Rattle.anf_transform.proofs.Stores.{front-more, front-all}
+use Rattle.bits.proofs.Stores.{front-more, front-all}
 use Rattle.anf_transform.proofs.Words.{part-fits, part-word}
 use Rattle.anf_transform.proofs.pack.pack.Statement.{statement}
 use Rattle.anf_transform.proofs.pack.pack.Tie as tie

@@ -1,6 +1,6 @@
 -- `anf_transform::pack::unpack_word` meets its contract. The loop's invariant: the first j bits are stored. The measure is what is left of the count.
 -- Assumes nothing.
-use mathlib.Core.List.{List, map}
+use mathlib.Core.List.{List, [], _∷_, map}
 use mathlib.Core.Path.{_≡_, sym, ap, ap₂, _∙_}
 use Prim.Native.Nat.{ℕ, _+_, _-_, _/_, _%_, _^_, _≤_}
 use native.Mathlib.Omega.{arith}
@@ -10,8 +10,9 @@ use lib.Seq.{sets}
 use Rattle.bits.specs.Bit.{bit, digit}
 use Rattle.bits.specs.Range.{from, upto}
 use Rattle.bits.proofs.Bit.{digit-bit}
-use Rattle.rules.proofs.Packed.{length-map-upto}
-use Rattle.anf_transform.proofs.Stores.{sets-more, map-upto-more}
+use Rattle.bits.proofs.Tabulated.{length-map-upto}
+use Rattle.bits.proofs.Stores.{sets-append}
+use Rattle.bits.proofs.Tabulated.{map-upto-more}
 use Rattle.anf_transform.proofs.pack.unpack_word.Statement.{statement}
 use Rattle.anf_transform.proofs.pack.unpack_word.Tie as tie
 
@@ -54,7 +55,7 @@ loop-again c =
       length-set (l .out) (a .base + l .j) (a .word / 2 ^ l .j % 2) ∙ l .inv .1,
       ap₂ (λ (o : List ℕ) (v : ℕ). set o (a .base + l .j) v) (l .inv .2) (sym (digit-bit (a .word) (l .j)))
           ∙ ap (λ (k : ℕ). set (sets (a .out .now) (a .base) vs) k (g (l .j))) n
-          ∙ sets-more vs (a .out .now) (a .base) (g (l .j))
+          ∙ sets-append vs (g (l .j) ∷ []) (a .out .now) (a .base)
           ∙ ap (sets (a .out .now) (a .base)) (sym (map-upto-more g (l .j))),
     )
 

@@ -1,0 +1,138 @@
+-- What the cycle's proof is stated over: each member's measure, its contract at a measure and below one, and what its callees ask and tell.
+-- The measure is three times the form's total literals and a rank within one form: a form is planned, then its choice is written, and that goes by
+-- the rule's own function. Assumes nothing.
+use Prim.Native.Nat.{ℕ, _+_, _*_, _<_}
+use Rattle.rules.specs.Form.{literals}
+use Rattle.form.specs.Masks.{masks}
+use borrow.Fn.Kinds.{In}
+use borrow.Fn.PlainCycle.{Measures, is, falls, and}
+use Rattle.compiler.proofs.emit.emit.Reads as emit
+use Rattle.compiler.proofs.emit.emit.Kinds as emit-kinds
+use Rattle.compiler.proofs.emit.+emit+emit_cleaned+emit_cube+emit_partial.Lts-emit as emit-lts
+use Rattle.compiler.proofs.emit.emit_cleaned.Reads as emit-cleaned
+use Rattle.compiler.proofs.emit.emit_cleaned.Kinds as emit-cleaned-kinds
+use Rattle.compiler.proofs.emit.+emit+emit_cleaned+emit_cube+emit_partial.Lts-emit_cleaned as emit-cleaned-lts
+use Rattle.compiler.proofs.emit.emit_cube.Reads as emit-cube
+use Rattle.compiler.proofs.emit.emit_cube.Kinds as emit-cube-kinds
+use Rattle.compiler.proofs.emit.+emit+emit_cleaned+emit_cube+emit_partial.Lts-emit_cube as emit-cube-lts
+use Rattle.compiler.proofs.emit.emit_partial.Reads as emit-partial
+use Rattle.compiler.proofs.emit.emit_partial.Kinds as emit-partial-kinds
+use Rattle.compiler.proofs.emit.+emit+emit_cleaned+emit_cube+emit_partial.Lts-emit_partial as emit-partial-lts
+use Rattle.anf_cleanup.proofs.cleanup.Reads as cleanup-reads
+use Rattle.compiler.proofs.emit.emit_absorption.Reads as emit-absorption-reads
+use Rattle.compiler.proofs.emit.emit_constant.Reads as emit-constant-reads
+use Rattle.compiler.proofs.emit.emit_family.Reads as emit-family-reads
+use Rattle.compiler.proofs.emit.emit_raw.Reads as emit-raw-reads
+use Rattle.form.proofs.Form.is_empty.Reads as is-empty-reads
+use Rattle.form.proofs.Form.raw_cost.Reads as raw-cost-reads
+use Rattle.form.proofs.Form.stripped.Reads as stripped-reads
+use Rattle.form.proofs.Form.uncovered.Reads as uncovered-reads
+use Rattle.form.proofs.Form.without.Reads as without-reads
+use Rattle.postfix.proofs.put_mark.Reads as put-mark-reads
+use Rattle.postfix.proofs.put_or_chain.Reads as put-or-chain-reads
+use Rattle.postfix.proofs.put_product.Reads as put-product-reads
+
+abbrev pub μ-emit : Measures 3 emit-kinds.ps ℕ
+μ-emit κs a = 3 * literals (masks (a .0)) + 1
+
+abbrev pub μ-emit-cleaned : Measures 3 emit-cleaned-kinds.ps ℕ
+μ-emit-cleaned κs a = 3 * literals (masks (a .0)) + 2
+
+abbrev pub μ-emit-cube : Measures 3 emit-cube-kinds.ps ℕ
+μ-emit-cube κs a = 3 * literals (masks (a .0))
+
+abbrev pub μ-emit-partial : Measures 3 emit-partial-kinds.ps ℕ
+μ-emit-partial κs a = 3 * literals (masks (a .0))
+
+abbrev pub emit-at : ℕ → In 3 emit-kinds.ps
+emit-at t = and 3 emit-kinds.ps (is 3 emit-kinds.ps μ-emit t) emit.Pre
+
+abbrev pub emit-below : ℕ → In 3 emit-kinds.ps
+emit-below t = and 3 emit-kinds.ps (falls 3 emit-kinds.ps _<_ μ-emit t) emit.Pre
+
+abbrev pub emit-cleaned-at : ℕ → In 3 emit-cleaned-kinds.ps
+emit-cleaned-at t =
+    and 3 emit-cleaned-kinds.ps (is 3 emit-cleaned-kinds.ps μ-emit-cleaned t) emit-cleaned.Pre
+
+abbrev pub emit-cleaned-below : ℕ → In 3 emit-cleaned-kinds.ps
+emit-cleaned-below t =
+    and
+    3
+    emit-cleaned-kinds.ps
+    (falls 3 emit-cleaned-kinds.ps _<_ μ-emit-cleaned t)
+    emit-cleaned.Pre
+
+abbrev pub emit-cube-at : ℕ → In 3 emit-cube-kinds.ps
+emit-cube-at t = and 3 emit-cube-kinds.ps (is 3 emit-cube-kinds.ps μ-emit-cube t) emit-cube.Pre
+
+abbrev pub emit-cube-below : ℕ → In 3 emit-cube-kinds.ps
+emit-cube-below t =
+    and 3 emit-cube-kinds.ps (falls 3 emit-cube-kinds.ps _<_ μ-emit-cube t) emit-cube.Pre
+
+abbrev pub emit-partial-at : ℕ → In 3 emit-partial-kinds.ps
+emit-partial-at t =
+    and 3 emit-partial-kinds.ps (is 3 emit-partial-kinds.ps μ-emit-partial t) emit-partial.Pre
+
+abbrev pub emit-partial-below : ℕ → In 3 emit-partial-kinds.ps
+emit-partial-below t =
+    and
+    3
+    emit-partial-kinds.ps
+    (falls 3 emit-partial-kinds.ps _<_ μ-emit-partial t)
+    emit-partial.Pre
+
+-- what each member's callees ask and tell
+
+abbrev pub emit-calls : ℕ → emit-lts.Claims
+emit-calls t = (
+  emit-constant-reads.Asked,
+  emit-constant-reads.Learnt,
+  emit-family-reads.Asked,
+  emit-family-reads.Learnt,
+  emit-raw-reads.Asked,
+  emit-raw-reads.Learnt,
+  emit-partial-below t,
+  emit-partial.Post,
+  emit-cube-below t,
+  emit-cube.Post,
+  emit-absorption-reads.Asked,
+  emit-absorption-reads.Learnt,
+)
+
+abbrev pub emit-cleaned-calls : ℕ → emit-cleaned-lts.Claims
+emit-cleaned-calls t = (
+  raw-cost-reads.Asked,
+  raw-cost-reads.Learnt,
+  cleanup-reads.Asked,
+  cleanup-reads.Learnt,
+  emit-below t,
+  emit.Post,
+)
+
+abbrev pub emit-cube-calls : ℕ → emit-cube-lts.Claims
+emit-cube-calls t = (
+  put-product-reads.Asked,
+  put-product-reads.Learnt,
+  stripped-reads.Asked,
+  stripped-reads.Learnt,
+  emit-cleaned-below t,
+  emit-cleaned.Post,
+  put-mark-reads.Asked,
+  put-mark-reads.Learnt,
+  uncovered-reads.Asked,
+  uncovered-reads.Learnt,
+  is-empty-reads.Asked,
+  is-empty-reads.Learnt,
+)
+
+abbrev pub emit-partial-calls : ℕ → emit-partial-lts.Claims
+emit-partial-calls t = (
+  put-or-chain-reads.Asked,
+  put-or-chain-reads.Learnt,
+  without-reads.Asked,
+  without-reads.Learnt,
+  emit-cleaned-below t,
+  emit-cleaned.Post,
+  put-mark-reads.Asked,
+  put-mark-reads.Learnt,
+)

@@ -1,0 +1,29 @@
+-- `compiler::emit::emit_cleaned`, a member of the cycle: the plan that the cleanup answers is written. Assumes nothing.
+use Prim.Native.Nat.{ℕ}
+use native.Mathlib.Omega.{arith}
+use borrow.Author.Needs.{needs}
+use Rattle.compiler.proofs.emit.emit_cleaned.Reads as reads
+use Rattle.compiler.proofs.emit.+emit+emit_cleaned+emit_cube+emit_partial.Lts-emit_cleaned as lts
+use Rattle.compiler.proofs.emit.+emit+emit_cleaned+emit_cube+emit_partial.Proof.Claims.{emit-cleaned-at as at, emit-cleaned-calls as calls}
+
+module _ (t : ℕ) where
+  raw-cost-requires : lts.Need-raw-cost-requires (calls t) (at t) reads.Post
+  raw-cost-requires c κs = tt
+
+  cleanup-requires : lts.Need-cleanup-requires (calls t) (at t) reads.Post
+  cleanup-requires c κs = let s = c .before .before in (c .raw-cost .ensures, s .pre .1 .0, s .pre .1 .1)
+
+  emit-requires : lts.Need-emit-requires (calls t) (at t) reads.Post
+  emit-requires c κs =
+      let s = c .before .before .before .before in
+      (omega (arith, s .pre .0), (c .before .cleanup .ensures, s .pre .1 .0, s .pre .1 .1, s .pre .1 .2))
+
+  same-length : lts.Need-same-length (calls t) (at t) reads.Post
+  same-length c = search needs
+
+  returns : lts.Need-returns (calls t) (at t) reads.Post
+  returns c = c .before .before .emit .ensures
+
+  pub spec : {M : Type 1} → lts.Closed (calls t) (at t) reads.Post M
+  spec =
+      lts.spec (calls t) (at t) reads.Post raw-cost-requires cleanup-requires emit-requires same-length returns

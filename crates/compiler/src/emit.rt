@@ -1,0 +1,128 @@
+// Writing a plan: what its choice makes of the form, as postfix records at a cursor. The forms that a choice leaves to clean are planned anew and
+// written the same way; their total literals fall.
+use anf_cleanup::Choice;
+use anf_cleanup::Plan;
+use form::Form;
+use postfix::Cursor;
+ghost use mathlib.Core.Path.{_≡_};
+ghost use Rattle.anf_cleanup.specs.Plan.{built, Planned};
+ghost use Rattle.form.specs.Masks.{masks, familyWords, supersetWords};
+ghost use Rattle.postfix.specs.Written.{Room, Writes};
+ghost use Rattle.rules.specs.Cleanup as paper;
+ghost use Rattle.rules.specs.Tree.{write};
+ghost use Rattle.compiler.specs.Emitted.{Due};
+
+// The cleaned form, by its plan.
+pub fn emit(
+    form: Form,
+    plan: Plan,
+    families: &[u64; 64],
+    supersets: &[u64; 64],
+    out: &mut [u8],
+    at: Cursor,
+) -> Cursor
+    requires { ⌜ (Planned (masks form) (paper.cleanup (masks form)) plan) × (now families ≡ familyWords) × (now supersets ≡ supersetWords) × Room (write (paper.cleanup (masks form))) at (now out) ⌝ }
+    ensures { λ r. ⌜ Writes (paper.cleanup (masks form)) at r (now (out .entry)) (now (out .exit)) ⌝ }
+{
+    let choice = plan.choice;
+    match choice {
+        Choice::Constant => emit_constant(form, out, at),
+        Choice::Family => emit_family(form, out, at),
+        Choice::Raw => emit_raw(form, out, at),
+        Choice::Partial(mask) => emit_partial(form, mask, families, supersets, out, at),
+        Choice::Cube(cube) => emit_cube(form, cube, families, supersets, out, at),
+        Choice::Absorption => emit_absorption(form, out, at),
+    }
+}
+
+// A form that is still to be planned.
+fn emit_cleaned(
+    form: Form,
+    families: &[u64; 64],
+    supersets: &[u64; 64],
+    out: &mut [u8],
+    at: Cursor,
+) -> Cursor
+    requires { ⌜ (now families ≡ familyWords) × (now supersets ≡ supersetWords) × Room (write (paper.cleanup (masks form))) at (now out) ⌝ }
+    ensures { λ r. ⌜ Writes (paper.cleanup (masks form)) at r (now (out .entry)) (now (out .exit)) ⌝ }
+{
+    let plan = anf_cleanup::cleanup(form, form.raw_cost(), families, supersets);
+    emit(form, plan, families, supersets, out, at)
+}
+
+// Rule 2: the chain of the mask in XO with the cleaned remainder.
+fn emit_partial(
+    form: Form,
+    mask: usize,
+    families: &[u64; 64],
+    supersets: &[u64; 64],
+    out: &mut [u8],
+    at: Cursor,
+) -> Cursor
+    requires { ⌜ (now families ≡ familyWords) × (now supersets ≡ supersetWords) × Due (Choice.Partial mask) (masks form) at (now out) ⌝ }
+    ensures { λ r. ⌜ Writes (built (Choice.Partial mask) (masks form)) at r (now (out .entry)) (now (out .exit)) ⌝ }
+{
+    let chain = postfix::put_or_chain(mask, out, at);
+    let rest = form.without(mask, families);
+    let both = emit_cleaned(rest, families, supersets, out, chain);
+    postfix::put_mark(b'X', b'O', out, both)
+}
+
+// Rule 3: the product of the cube and the cleaned inner form, in XO with the cleaned remainder unless that is empty.
+fn emit_cube(
+    form: Form,
+    cube: usize,
+    families: &[u64; 64],
+    supersets: &[u64; 64],
+    out: &mut [u8],
+    at: Cursor,
+) -> Cursor
+    requires { ⌜ (now families ≡ familyWords) × (now supersets ≡ supersetWords) × Due (Choice.Cube cube) (masks form) at (now out) ⌝ }
+    ensures { λ r. ⌜ Writes (built (Choice.Cube cube) (masks form)) at r (now (out .entry)) (now (out .exit)) ⌝ }
+{
+    let product = postfix::put_product(cube, out, at);
+    let inner = form.stripped(cube, supersets);
+    let both = emit_cleaned(inner, families, supersets, out, product);
+    let factored = postfix::put_mark(b'A', b'N', out, both);
+    let rest = form.uncovered(cube, supersets);
+    if rest.is_empty() {
+        return factored;
+    }
+    let all = emit_cleaned(rest, families, supersets, out, factored);
+    postfix::put_mark(b'X', b'O', out, all)
+}
+
+// No monomials: the constant.
+fn emit_constant(form: Form, out: &mut [u8], at: Cursor) -> Cursor
+    requires { ⌜ Due Choice.Constant (masks form) at (now out) ⌝ }
+    ensures { λ r. ⌜ Writes (built Choice.Constant (masks form)) at r (now (out .entry)) (now (out .exit)) ⌝ }
+{
+    postfix::put_constant(form.constant() as u8, out, at)
+}
+
+// Rule 1: the chain of the single flags.
+fn emit_family(form: Form, out: &mut [u8], at: Cursor) -> Cursor
+    requires { ⌜ Due Choice.Family (masks form) at (now out) ⌝ }
+    ensures { λ r. ⌜ Writes (built Choice.Family (masks form)) at r (now (out .entry)) (now (out .exit)) ⌝ }
+{
+    postfix::put_family(form.constant() as u8, form.singles(), out, at)
+}
+
+// The raw form: its terms in their order, folded.
+fn emit_raw(form: Form, out: &mut [u8], at: Cursor) -> Cursor
+    requires { ⌜ Due Choice.Raw (masks form) at (now out) ⌝ }
+    ensures { λ r. ⌜ Writes (built Choice.Raw (masks form)) at r (now (out .entry)) (now (out .exit)) ⌝ }
+{
+    let mut terms = [0u32; 64];
+    let count = anf_form::terms(form.word, &mut terms);
+    postfix::put_fold(&terms, 0, count, out, at)
+}
+
+// Rule 4: the smaller of two monomials without the rest of the larger.
+fn emit_absorption(form: Form, out: &mut [u8], at: Cursor) -> Cursor
+    requires { ⌜ Due Choice.Absorption (masks form) at (now out) ⌝ }
+    ensures { λ r. ⌜ Writes (built Choice.Absorption (masks form)) at r (now (out .entry)) (now (out .exit)) ⌝ }
+{
+    let pair = form.pair();
+    postfix::put_absorption(form.constant() as u8, pair.first, pair.second, out, at)
+}
