@@ -10,7 +10,7 @@ if [ -z "$rust" ]; then
     exit 2
 fi
 if ! command -v python3 >/dev/null 2>&1; then
-    echo "compare: python3 is not installed; it makes the files from print and from sympy" >&2
+    echo "compare: python3 is not installed; it makes the files from print, from sympy and from document 01" >&2
     exit 2
 fi
 
@@ -38,6 +38,19 @@ mkdir "$scratch/made"
 "$scratch/build/oracle" transforms "$scratch/made"
 compare replay_transforms small.bin
 compare replay_transforms samples.bin
+
+"$scratch/build/oracle" expressions "$scratch/made"
+compare replay_rules small.bin
+compare replay_rules samples.bin
+
+"$scratch/build/oracle" costs "$scratch/made"
+compare replay_expressions costs.bin
+
+"$scratch/build/oracle" listings "$scratch/made"
+compare replay_expressions listings.bin
+
+python3 "$here/expression_cases.py" "$scratch/made"
+compare replay_expressions cases.bin
 
 python3 "$here/printed_transforms.py" "$scratch/made"
 compare replay_transforms printed.bin

@@ -1,5 +1,5 @@
 -- What listing tells, and what it leaves in the lent buffer: a refusal leaves the buffer, and a listing stands at its front. It rests on the rows of the
--- calls (rules, Checked), on the masks that words hold (rules, Held) and on the laws of stores (bits, Stores). Assumes nothing.
+-- calls (rules, Checked), on the masks that words hold (rules, Held) and on the laws of outcomes (rules, Outcome). Assumes nothing.
 --   Told n ws out after r        == both promises of listing, for the answer r and the buffer after it
 --   told-refusal                 == a refusal
 --   Passed n k ws                == no row refuses the coefficients, and k words are needed
@@ -11,19 +11,19 @@ use mathlib.Core.Path.{_≡_, refl, sym, ap, ap₂, _∙_}
 use Prim.Native.Nat.{ℕ, _+_, _^_, _≤_, _<_}
 use native.Mathlib.Omega.{arith}
 use lib.Dec.{eqb}
-use lib.ListN.{length, take}
+use lib.ListN.{length}
 use lib.Seq.{sets}
 use Rattle.bits.specs.Bit.{digit}
 use Rattle.bits.specs.Range.{Below}
-use Rattle.bits.proofs.Stores.{take-sets-front}
 use Rattle.rules.specs.Calls as paper
 use Rattle.rules.specs.Coefficient.{wordCount, packed, stray}
 use Rattle.rules.specs.Limits.{formFlags, shortOutput}
 use Rattle.rules.specs.Monomial.{constant, monomials, ordered}
-use Rattle.rules.specs.Outcome.{Outcome, gives, refuses, left, _then_}
+use Rattle.rules.specs.Outcome.{Outcome, gives, refuses, front, left, _then_}
 use Rattle.rules.proofs.Checked.{coefficients-clean, room-short, room-enough}
 use Rattle.rules.proofs.Degrees.{length-monomials}
 use Rattle.rules.proofs.Held.{held-form, below-held, ascending-held, constant-held}
+use Rattle.rules.proofs.Outcome.{front-written}
 use Rattle.rules.proofs.Ordered.{length-ordered}
 use Rattle.rules.proofs.Packed.{wordCount-pos}
 use Rattle.anf_form.specs.Answers.{listingOf}
@@ -89,7 +89,7 @@ module _ (n k : ℕ) (ws : List ℕ) (p : Passed n k ws) where
       told-listing d after b h w =
           let given = past ∙ room-enough (length out) masks _ (omega (arith, counted)) in
           let flag = ap (λ (x : ℕ). eqb x 1) b ∙ digit-one (packed ws 0) ∙ sym constant-is in
-          let front = ap₂ (λ (i : ℕ) (l : List ℕ). take i l) counted w ∙ take-sets-front masks out (omega (arith, counted)) in (
-            ap₂ {C = Outcome paper.Listing} (λ (q : Bool) (l : List ℕ). gives record { constant = q; masks = l }) flag front ∙ sym given,
+          let listed = ap₂ front counted w ∙ front-written masks out (omega (arith, counted)) in (
+            ap₂ {C = Outcome paper.Listing} (λ (q : Bool) (l : List ℕ). gives record { constant = q; masks = l }) flag listed ∙ sym given,
             w ∙ ap (placed out) (sym given),
           )

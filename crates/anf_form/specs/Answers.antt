@@ -4,9 +4,8 @@
 use mathlib.Core.List.{List}
 use Prim.Native.Nat.{ℕ}
 use lib.Dec.{eqb}
-use lib.ListN.{take}
 use Rattle.rules.specs.Calls as paper
-use Rattle.rules.specs.Outcome.{Outcome, gives, refuses}
+use Rattle.rules.specs.Outcome.{Outcome, gives, refuses, front}
 use Rattle.anf_form.specs.declared.Listing.{Listing}
 use Rattle.anf_form.specs.declared.Listing.the-variants.{Listed, Refused}
 use Rattle.anf_form.specs.declared.RawCost as raw
@@ -14,7 +13,7 @@ use Rattle.anf_form.specs.declared.RawCost.the-variants as raws
 
 -- `Listed`: the constant, and the first `count` entries of the buffer
 abbrev pub listingOf : List ℕ → Listing → Outcome paper.Listing
-listingOf out (Listed f) = gives (record { constant = eqb (f .constant) 1; masks = take (f .count) out })
+listingOf out (Listed f) = gives (record { constant = eqb (f .constant) 1; masks = front (f .count) out })
 listingOf out (Refused r) = refuses (r .number) (r .place)
 
 abbrev pub rawCostOf : raw.RawCost → Outcome ℕ

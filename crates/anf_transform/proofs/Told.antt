@@ -1,16 +1,16 @@
 -- What a call that fills a lent buffer tells, and what it leaves there: a refusal leaves the buffer, and a result stands at its front.
--- It rests on the laws of runs of stores (Stores). Assumes nothing.
+-- It rests on the laws of outcomes (rules, Outcome). Assumes nothing.
 --   told-refusal     == a refusal
 --   told-result      == a result, written at the front
 use mathlib.Core.List.{List}
 use mathlib.Core.Path.{_≡_, sym, ap, ap₂, _∙_}
 use Prim.Native.Nat.{ℕ, _≤_}
-use lib.ListN.{length, take}
+use lib.ListN.{length}
 use lib.Seq.{sets}
-use Rattle.rules.specs.Outcome.{Outcome, gives, refuses, left}
+use Rattle.rules.specs.Outcome.{Outcome, gives, refuses, front, left}
 use Rattle.anf_transform.specs.Filled.{told}
 use Rattle.anf_transform.specs.declared.Filled.the-variants.{Entries, Refused}
-use Rattle.bits.proofs.Stores.{take-sets-front}
+use Rattle.rules.proofs.Outcome.{front-written}
 
 pub told-refusal : (out : List ℕ) (o : Outcome (List ℕ)) (k p : ℕ) → o ≡ refuses k p → (told out (Refused record { number = k; place = p }) ≡ o) × (out ≡ left out o)
 told-refusal out o k p e = (sym e, ap (left out) (sym e))
@@ -18,6 +18,6 @@ told-refusal out o k p e = (sym e, ap (left out) (sym e))
 pub told-result : (out after l : List ℕ) (o : Outcome (List ℕ)) (n : ℕ) → o ≡ gives l → length l ≡ n → n ≤ length out → after ≡ sets out 0 l
     → (told after (Entries n) ≡ o) × (after ≡ left out o)
 told-result out after l o n e s h w = (
-  ap (λ (r : List ℕ). gives r) (ap₂ (λ (k : ℕ) (r : List ℕ). take k r) (sym s) w ∙ take-sets-front l out (rw s h)) ∙ sym e,
+  ap (λ (r : List ℕ). gives r) (ap₂ front (sym s) w ∙ front-written l out (rw s h)) ∙ sym e,
   w ∙ ap (left out) (sym e),
 )

@@ -2,12 +2,11 @@
 --   told l f     == the outcome that the answer f tells, where l is what the call wrote
 use mathlib.Core.List.{List}
 use Prim.Native.Nat.{ℕ}
-use lib.ListN.{take}
-use Rattle.rules.specs.Outcome.{Outcome, gives, refuses}
+use Rattle.rules.specs.Outcome.{Outcome, gives, refuses, front}
 use Rattle.anf_transform.specs.declared.Filled.{Filled}
 use Rattle.anf_transform.specs.declared.Filled.the-variants.{Entries, Refused}
 
 -- `Entries(k)`: the result is the first k entries of the lent buffer as it is left; `Refused`: the refusal's number and place
 abbrev pub told : List ℕ → Filled → Outcome (List ℕ)
-told out (Entries k) = gives (take k out)
+told out (Entries k) = gives (front k out)
 told out (Refused r) = refuses (r .number) (r .place)

@@ -1,6 +1,5 @@
 -- What the compiler tells, and what it leaves in the lent buffer: a refusal leaves the buffer, and an expression stands at its front with its counts.
 -- It rests on the rows of the calls (rules, Checked), on the laws of stores (bits, Stores) and on written trees (postfix, Written). Assumes nothing.
---   front-stored                     == the first entries of a buffer are what was stored there
 --   Made n table end bytes c w       == up to the cursor `end` stand the bytes of the compiled tree, with its count of records; c and w are its costs
 --   made                             == a plan of the table's form, written at the front of a buffer
 --   Told n table out after r         == both promises of the compiler, for the answer r and the buffer after it
@@ -17,22 +16,18 @@ use Rattle.rules.specs.Calls as paper
 use Rattle.rules.specs.Cleanup.{cleanup}
 use Rattle.rules.specs.Form.{rawCost}
 use Rattle.rules.specs.Limits.{ruleFlags, tooManyFlags, shortTable, shortOutput}
-use Rattle.rules.specs.Outcome.{Outcome, gives, refuses, left}
+use Rattle.rules.specs.Outcome.{Outcome, gives, refuses, front, left}
 use Rattle.rules.specs.Tree.{Tree, cost, size, write}
+use Rattle.rules.proofs.Outcome.{front-written}
 use Rattle.rules.proofs.Checked.{table-flags, table-short, table-complete, room-short, room-enough}
 use Rattle.bits.proofs.Tabulated.{map-upto-of}
 use Rattle.anf_cleanup.specs.Plan.{Planned}
 use Rattle.anf_cleanup.specs.declared.Plan.{Plan}
 use Rattle.postfix.specs.Written.{Writes}
 use Rattle.postfix.specs.declared.Cursor.{Cursor}
-use Rattle.compiler.specs.Answer.{front, compilationOf, bytesOf}
+use Rattle.compiler.specs.Answer.{compilationOf, bytesOf}
 use Rattle.compiler.specs.declared.Compilation.{Compilation}
 use Rattle.compiler.specs.declared.Compilation.the-variants.{Written, Refused}
-
-pub front-stored : (l out : List ℕ) → length l ≤ length out → front (length l) (sets out 0 l) ≡ l
-front-stored l out h =
-    sym (map-upto-of (length l) (λ i. getD (sets out 0 l) i 0) l refl
-    (λ i k. ap (λ (x : List ℕ). getD x i 0) (sym (take-sets-front l out h)) ∙ getD-take (length l) (sets out 0 l) i 0 k))
 
 pub record Made (n : ℕ) (table : List ℕ) (end : Cursor) (bytes : List ℕ) (c w : ℕ) : Type 0 where
   pub place : end .place ≡ length (write (paper.compiled n table))
@@ -98,7 +93,7 @@ module _ (n : ℕ) (table out : List ℕ) where
         told-expression after h e =
             let given = past ∙ room-enough (length out) (write tree) _ (omega (arith, m .place)) in
             let put = e ∙ ap (sets out 0) (m .stored) in
-            let stored = ap₂ front (m .place) put ∙ front-stored (write tree) out (omega (arith, m .place)) in
+            let stored = ap₂ front (m .place) put ∙ front-written (write tree) out (omega (arith, m .place)) in
             let same : compilationOf after (Written (record { bytes = end .place; records = end .records; cost = c; raw = w }))
             ≡ gives (paper.compilation tree (paper.tableForm n table)) =
             λ i. gives (record { bytes = stored i; records = m .records i; cost = m .costs i; raw = m .raw i }) in

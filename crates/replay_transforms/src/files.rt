@@ -1,13 +1,12 @@
-// Reads the recorded files and replays each table of them. It rests on the replay of one table, and on io and os.
+// Reads the recorded files and replays each table of them. It rests on the replay of one table.
 // What a file lacks, because it is cut short or damaged, counts as a difference.
 use crate::one_table::agrees;
-use crate::sizes;
-use crate::tally;
-use crate::tally::Tally;
-
-fn low_byte(number: u64) -> u8 {
-    (number % 256) as u8
-}
+use replay::file;
+use replay::numbers::byte_at;
+use replay::numbers::low_byte;
+use replay::sizes;
+use replay::tally;
+use replay::tally::Tally;
 
 // One table of small.bin, whose bits are the digits of `number` and whose coefficients are the next two bytes.
 fn is_same_small(
@@ -20,7 +19,7 @@ fn is_same_small(
 ) -> bool {
     let bits = [low_byte(number), low_byte(number / 256)];
     let mut recorded = [0u8; 2];
-    if io::read_full(fd, &mut recorded) < 2 {
+    if !file::fills(fd, &mut recorded) {
         return false;
     }
     agrees(flags, &bits, &recorded, table, words, entries)
@@ -62,31 +61,8 @@ fn all_small_tables(fd: i32) -> Tally {
 
 pub fn replay_small() {
     let path = b"small.bin";
-    let fd = os::open_read(path);
-    if fd < 0 {
-        os::fail(path);
-        return;
-    }
-    tally::print(path, b"tables", all_small_tables(fd));
-    libc::close(fd);
-}
-
-enum Sample {
-    Same,
-    Differs,
-    End,
-}
-
-fn verdict(is_same: bool) -> Sample {
-    if is_same {
-        Sample::Same
-    } else {
-        Sample::Differs
-    }
-}
-
-fn wide(byte: u8) -> usize {
-    byte as usize
+    let fd = file::open(path);
+    file::close(fd, path, b"tables", all_small_tables(fd));
 }
 
 // The rest of a sample: the table's bits and the coefficients, each as long as the slice that takes them.
@@ -99,22 +75,24 @@ fn is_same_rest(
     words: &mut [u64; 1027],
     entries: &mut [u64; 65539],
 ) -> bool {
-    if io::read_full(fd, bits) < bits.len() {
+    if !file::fills(fd, bits) {
         return false;
     }
-    if io::read_full(fd, recorded) < recorded.len() {
+    if !file::fills(fd, recorded) {
         return false;
     }
     agrees(flags, bits, recorded, table, words, entries)
 }
 
+// A sample's head is its flag count.
 fn is_same_sample(
     fd: i32,
-    flags: usize,
+    head: &[u8],
     table: &mut [u64; 65536],
     words: &mut [u64; 1027],
     entries: &mut [u64; 65539],
 ) -> bool {
+    let flags = byte_at(head, 0) as usize;
     let size = sizes::bytes(flags);
     if size > 8192 {
         return false;
@@ -132,50 +110,28 @@ fn is_same_sample(
     )
 }
 
-fn next_sample(
-    fd: i32,
-    table: &mut [u64; 65536],
-    words: &mut [u64; 1027],
-    entries: &mut [u64; 65539],
-) -> Sample {
-    let mut head = [0u8; 1];
-    if io::read_full(fd, &mut head) == 0 {
-        return Sample::End;
-    }
-    verdict(is_same_sample(fd, wide(head[0]), table, words, entries))
-}
-
 // A proved loop has to end, and nothing says that a file does: the turns are more than any recorded file has samples.
 fn all_samples(fd: i32) -> Tally {
     let mut table = [0u64; 65536];
     let mut words = [0u64; 1027];
     let mut entries = [0u64; 65539];
     let mut tally = tally::none();
+    let mut head = [0u8; 1];
     let mut turns: u64 = 1000000;
     while turns > 0 {
-        let sample = next_sample(fd, &mut table, &mut words, &mut entries);
-        match sample {
-            Sample::Same => {
-                tally = tally::counted(tally, true);
-            }
-            Sample::Differs => {
-                tally = tally::counted(tally, false);
-            }
-            Sample::End => {
-                return tally;
-            }
+        if !file::fills(fd, &mut head) {
+            return tally;
         }
+        tally = tally::counted(
+            tally,
+            is_same_sample(fd, &head, &mut table, &mut words, &mut entries),
+        );
         turns -= 1;
     }
     tally
 }
 
 pub fn replay_samples(path: &[u8]) {
-    let fd = os::open_read(path);
-    if fd < 0 {
-        os::fail(path);
-        return;
-    }
-    tally::print(path, b"tables", all_samples(fd));
-    libc::close(fd);
+    let fd = file::open(path);
+    file::close(fd, path, b"tables", all_samples(fd));
 }

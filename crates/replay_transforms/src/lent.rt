@@ -1,23 +1,9 @@
-// What is lent to the library: a table with noise where the library must not look, and buffers filled with a pattern,
-// by which a change past the result, or after a refusal, shows. It rests on the bits of a recorded file.
-use crate::bits::bit_at;
-use crate::bits::word_at;
+// The buffers that are lent to the library, filled with a pattern by which a change past the result, or after a refusal,
+// shows; and what must stand in them. It rests on the bits of a recorded file.
+use replay::numbers::bit_at;
+use replay::numbers::word_at;
 
 const PATTERN: u64 = 0x0123_4567_89AB_CDEF;
-
-// An entry whose bit 0 is the table's bit and whose other bits vary with the setting.
-fn noisy(setting: usize, bit: u64) -> u64 {
-    let mixed = ((setting % 65536) as u64) * 0x9E37_79B9_7F4A;
-    ((mixed ^ 0xC2B2_AE3D_27D4_EB4F) & 0xFFFF_FFFF_FFFF_FFFE) | bit
-}
-
-pub fn set_table(table: &mut [u64], bits: &[u8]) {
-    let mut s = 0;
-    while s < table.len() {
-        table[s] = noisy(s, bit_at(bits, s));
-        s += 1;
-    }
-}
 
 pub fn set_pattern(out: &mut [u64]) {
     let mut i = 0;

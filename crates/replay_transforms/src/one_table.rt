@@ -2,10 +2,11 @@
 // Each buffer has three entries more than its result, which must stay as they were; on the way back the coefficient
 // words have three more too, which must be ignored.
 use crate::lent;
-use crate::sizes;
 use anf_transform::Filled;
 use anf_transform::compute_anf;
 use anf_transform::compute_table;
+use replay::lent::set_table;
+use replay::sizes;
 
 fn is_transformed(
     flags: usize,
@@ -14,7 +15,7 @@ fn is_transformed(
     table: &mut [u64],
     words: &mut [u64],
 ) -> bool {
-    lent::set_table(table, bits);
+    set_table(table, bits);
     lent::set_pattern(words);
     let Filled::Entries(count) = compute_anf(flags, table, words) else {
         return false;

@@ -1,11 +1,11 @@
 // Calls that the library must refuse, with the number and the place that each must give, and every lent entry unchanged.
 // Where several rows of the table of refusals apply, the upper one counts. It rests on the library's two calls.
 use crate::lent;
-use crate::tally;
-use crate::tally::Tally;
 use anf_transform::Filled;
 use anf_transform::compute_anf;
 use anf_transform::compute_table;
+use replay::tally;
+use replay::tally::Tally;
 
 fn is_refusal(answer: Filled, number: u64, place: usize) -> bool {
     match answer {

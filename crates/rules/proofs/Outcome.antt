@@ -1,13 +1,20 @@
--- What a given result tells of the rows and steps before it. It rests on the two constructors of an outcome. Assumes nothing.
+-- What a given result tells of the rows and steps before it, and what a buffer holds after it. It rests on the two constructors of an outcome and on the
+-- laws of stores and of lists with an entry for each number (bits, Stores and Tabulated). Assumes nothing.
 --   gives-same       == results of one outcome are equal
 --   refuse-gives     == a row that was passed does not hold, and the rest gave the result
 --   then-gives       == each of two steps gave a result
+--   front-written    == the first entries of a buffer are what was written there
 --   pick, pick-gives == a choice between two outcomes: one of them gave the result
 use mathlib.Core.Bool.{Bool, true, false}
-use mathlib.Core.Path.{_≡_, refl}
-use Prim.Native.Nat.{ℕ}
+use mathlib.Core.List.{List}
+use mathlib.Core.Path.{_≡_, refl, sym, ap, _∙_}
+use Prim.Native.Nat.{ℕ, _≤_}
 use native.Mathlib.Omega.{arith}
-use Rattle.rules.specs.Outcome.{Outcome, gives, refuses, refuse, _then_}
+use lib.ListN.{length, getD}
+use lib.Seq.{getD-take}
+use Rattle.bits.proofs.Stores.{take-sets-front}
+use Rattle.bits.proofs.Tabulated.{map-upto-of}
+use Rattle.rules.specs.Outcome.{Outcome, gives, refuses, refuse, _then_, written, front}
 
 pub gives-same : {A : Type 0} {a b : A} → _≡_ {A = Outcome A} (gives a) (gives b) → a ≡ b
 gives-same e = cc
@@ -27,3 +34,8 @@ pub pick-gives : {A P : Type 0} (b : Bool) (x y : Outcome A) (a : A)
     → (b ≡ true → x ≡ gives a → P) → (b ≡ false → y ≡ gives a → P) → pick b x y ≡ gives a → P
 pick-gives true x y a f g e = f refl e
 pick-gives false x y a f g e = g refl e
+
+pub front-written : (l out : List ℕ) → length l ≤ length out → front (length l) (written out l) ≡ l
+front-written l out h =
+    sym (map-upto-of (length l) (λ i. getD (written out l) i 0) l refl
+    (λ i k. ap (λ (x : List ℕ). getD x i 0) (sym (take-sets-front l out h)) ∙ getD-take (length l) (written out l) i 0 k))

@@ -1,14 +1,16 @@
--- `replay_transforms::files::all_samples` is safe and ends. The measure is the number of turns that are left. Nothing has to hold from turn to turn.
+-- `replay_transforms::files::all_samples` is safe and ends. The invariant: the head keeps its one byte. The measure is the number of turns that are left.
 -- Assumes nothing.
 use borrow.Author.Needs.{needs}
+use lib.ListN.{length}
+use mathlib.Core.Path.{_≡_}
 use Rattle.replay_transforms.proofs.files.all_samples.Statement.{statement}
 use Rattle.replay_transforms.proofs.files.all_samples.Tie as tie
 
 abbrev Inv-loop : tie.InvT-loop
-Inv-loop fd table₀ words₀ entries₀ tally₀ turns₀ table words entries tally turns = Unit {0}
+Inv-loop fd table₀ words₀ entries₀ tally₀ head₀ turns₀ table words entries tally head turns = length head ≡ 1
 
 abbrev μ-loop : tie.MeasureT-loop
-μ-loop fd table₀ words₀ entries₀ tally₀ turns₀ table words entries tally turns = turns
+μ-loop fd table₀ words₀ entries₀ tally₀ head₀ turns₀ table words entries tally head turns = turns
 
 none-requires : tie.Need-none-requires Inv-loop μ-loop
 none-requires c κs = search needs
@@ -16,26 +18,23 @@ none-requires c κs = search needs
 loop-holds : tie.Need-loop-holds Inv-loop μ-loop
 loop-holds c = search needs
 
-next-sample-requires : tie.Need-next-sample-requires Inv-loop μ-loop
-next-sample-requires c κs = search needs
+slice-aggregate-fills : tie.Need-slice-aggregate-fills Inv-loop μ-loop
+slice-aggregate-fills c = search needs
 
-enum-told : tie.Need-enum-told Inv-loop μ-loop
-enum-told c = search needs
-
-counted-requires : tie.Need-counted-requires Inv-loop μ-loop
-counted-requires c κs = search needs
-
-enum-told-2 : tie.Need-enum-told-2 Inv-loop μ-loop
-enum-told-2 c = search needs
-
-counted-requires-2 : tie.Need-counted-requires-2 Inv-loop μ-loop
-counted-requires-2 c κs = search needs
-
-enum-told-3 : tie.Need-enum-told-3 Inv-loop μ-loop
-enum-told-3 c = search needs
+fills-requires : tie.Need-fills-requires Inv-loop μ-loop
+fills-requires c κs = search needs
 
 returns : tie.Need-returns Inv-loop μ-loop
 returns c = search needs
+
+slice-aggregate-is-same-sample : tie.Need-slice-aggregate-is-same-sample Inv-loop μ-loop
+slice-aggregate-is-same-sample c = search needs
+
+is-same-sample-requires : tie.Need-is-same-sample-requires Inv-loop μ-loop
+is-same-sample-requires c κs = search needs
+
+counted-requires : tie.Need-counted-requires Inv-loop μ-loop
+counted-requires c κs = search needs
 
 sub-turns : tie.Need-sub-turns Inv-loop μ-loop
 sub-turns c = search needs
@@ -57,13 +56,12 @@ all-samples-spec =
     μ-loop
     none-requires
     loop-holds
-    next-sample-requires
-    enum-told
-    counted-requires
-    enum-told-2
-    counted-requires-2
-    enum-told-3
+    slice-aggregate-fills
+    fills-requires
     returns
+    slice-aggregate-is-same-sample
+    is-same-sample-requires
+    counted-requires
     sub-turns
     loop-less
     loop-again

@@ -1,11 +1,11 @@
--- `replay_transforms::lent::set_table` is safe and ends. The invariant: the table keeps its length. The measure is what is left of it.
+-- `replay::lent::set_table` is safe and ends. The invariant: the table keeps its length. The measure is what is left of it.
 -- Assumes nothing.
 use borrow.Author.Needs.{needs}
 use lib.ListN.{length}
 use Prim.Native.Nat.{_-_}
 use mathlib.Core.Path.{_≡_}
-use Rattle.replay_transforms.proofs.lent.set_table.Statement.{statement}
-use Rattle.replay_transforms.proofs.lent.set_table.Tie as tie
+use Rattle.replay.proofs.lent.set_table.Statement.{statement}
+use Rattle.replay.proofs.lent.set_table.Tie as tie
 
 abbrev Inv-loop : tie.InvT-loop
 Inv-loop table₀ bits s₀ table s = length table ≡ length table₀

@@ -1,0 +1,104 @@
+// Each call of the library that a case can ask for, and its answer as an outcome. It rests on those calls.
+use crate::outcome::Outcome;
+use crate::outcome::damaged;
+use crate::outcome::given;
+use crate::outcome::refused;
+use anf_form::RawCost;
+use anf_form::raw_anf_cost;
+use examiner::Examination;
+use examiner::examine;
+use expr::Kind;
+use expr::Node;
+use expr::Reading;
+use expr::evaluation::Evaluation;
+use expr::evaluation::evaluate;
+use expr_cost::Costing;
+use expr_cost::cheaper;
+use expr_cost::compute_cost;
+use replay::lent::set_table;
+use replay::numbers::word_at;
+
+// A record by the number that the files have for it.
+fn code(kind: Kind) -> usize {
+    match kind {
+        Kind::Constant(value) => value as usize,
+        Kind::Variable(index) => 2 + (index as usize),
+        Kind::And => 10,
+        Kind::Or => 11,
+        Kind::Xor => 12,
+        Kind::Not => 13,
+    }
+}
+
+fn found(node: Node) -> Outcome {
+    let kind = node.kind;
+    given(code(kind), node.next, 0)
+}
+
+pub fn reading(flags: usize, bytes: &[u8], place: usize) -> Outcome {
+    let answer = expr::read(flags, bytes, place);
+    match answer {
+        Reading::Found(node) => found(node),
+        Reading::End => given(255, 0, 0),
+        Reading::Refused(refusal) => refused(refusal),
+    }
+}
+
+pub fn evaluation(flags: usize, bytes: &[u8], setting: usize) -> Outcome {
+    let answer = evaluate(flags, bytes, setting);
+    match answer {
+        Evaluation::Value(value) => given(value as usize, 0, 0),
+        Evaluation::Refused(refusal) => refused(refusal),
+    }
+}
+
+pub fn costing(flags: usize, bytes: &[u8]) -> Outcome {
+    let answer = compute_cost(flags, bytes);
+    match answer {
+        Costing::Known(costs) => given(costs.cost, costs.size, costs.depth),
+        Costing::Refused(refusal) => refused(refusal),
+    }
+}
+
+// The table has so many entries, whose lowest bits are `bits`.
+pub fn examination(flags: usize, entries: usize, bits: &[u8], bytes: &[u8]) -> Outcome {
+    if entries > 128 {
+        return damaged();
+    }
+    let mut table = [0u64; 128];
+    set_table(&mut table, bits);
+    let answer = examine(flags, &table[0..entries], bytes);
+    match answer {
+        Examination::Accepted(cost) => given(cost, 0, 0),
+        Examination::Refused(refusal) => refused(refusal),
+    }
+}
+
+// So many words are lent, of which the first is `bits` and the others, which must be ignored, are not 0.
+pub fn raw_costing(flags: usize, entries: usize, bits: &[u8]) -> Outcome {
+    if entries > 128 {
+        return damaged();
+    }
+    let mut words = [u64::MAX; 128];
+    words[0] = word_at(bits, 0);
+    let answer = raw_anf_cost(flags, &words[0..entries]);
+    match answer {
+        RawCost::Cost(cost) => given(cost, 0, 0),
+        RawCost::Refused(refusal) => refused(refusal),
+    }
+}
+
+// Which of the two is handed back: 0 for an empty slice, 1 for the first, 2 for the second, by length and bytes.
+pub fn choice<'a>(flags: usize, first: &'a [u8], second: &'a [u8]) -> Outcome {
+    let chosen = cheaper(flags, first, second);
+    if chosen.len() == 0 {
+        return given(0, 0, 0);
+    }
+    if check::same(chosen, first) {
+        return given(1, 0, 0);
+    }
+    if check::same(chosen, second) {
+        return given(2, 0, 0);
+    }
+    damaged()
+}
