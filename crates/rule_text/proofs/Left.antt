@@ -1,0 +1,161 @@
+-- What the walk that prints an expression's records keeps: the records from its place on are left to print, and what is printed before them is written. It
+-- rests on the records of a tree (RecordList), on what the reader answers (rules, RecordAt) and on texts in turn (Put). Assumes nothing.
+--   gap-none, gap-some       == nothing before the first record, and a space before every other
+--   after p ks               == the text of the records ks, of which the first begins at byte p
+--   Left                     == what the walk keeps
+--   Next w r, left-next      == r is the next record; what the reader finds is
+--   left-found               == where bytes are left the code's answer is a record
+--   left-start, left-step    == before the first record; one record more
+--   left-end                 == where no bytes are left all is written
+--   left-gap, left-kind      == there is room for the space and for the record's text
+use mathlib.Core.List.{List, [], _∷_, _++_, append-assoc, append-nil}
+use mathlib.Core.Logic.{_⊎_, ⊎-elim}
+use mathlib.Core.Path.{_≡_, refl, sym, ap, subst, _∙_}
+use Prim.Native.Nat.{ℕ, zero, suc, _+_, _≤_, _<_}
+use native.Mathlib.Omega.{arith}
+use lib.ListN.{length, drop, length-append, length-drop}
+use lib.Seq.{drop-drop, drop-append-seam}
+use denote.Enum.Declared.{tagOf}
+use Rattle.bits.specs.Range.{Below}
+use Rattle.bits.proofs.Every.{Every}
+use Rattle.rules.specs.Ascii.{ascii}
+use Rattle.rules.specs.Calls.{read}
+use Rattle.rules.specs.Limits.{ruleFlags}
+use Rattle.rules.specs.Machine.{made, WellFormed}
+use Rattle.rules.specs.Outcome.{gives}
+use Rattle.rules.specs.Record.{Kind, Found, recordAt}
+use Rattle.rules.specs.Text.{records}
+use Rattle.rules.specs.Tree.{Tree}
+use Rattle.rules.proofs.Outcome.{gives-same}
+use Rattle.rules.proofs.RecordAt.{bytesOf, bytesOf-long, FlagBelow, record-at}
+use Rattle.rules.proofs.WellFormed.{made-is}
+use Rattle.expr.specs.Answers.{readingOf}
+use Rattle.expr.specs.declared.Reading.{Reading}
+use Rattle.expr.proofs.Reader.{Read, read-end, read-refused}
+use Rattle.expr.proofs.Reading.{the-type}
+use Rattle.rule_text.specs.Parts.{gap, kindText, shown}
+use Rattle.rule_text.specs.Put.{Room, Put}
+use Rattle.rule_text.proofs.RecordList.{kinds, each, spaced, write-kinds, records-kinds, flags-kinds}
+use Rattle.rule_text.proofs.Put.{put-none, put-append, put-eq, room-eq, room-first, room-next}
+
+pub gap-none : (p : ℕ) → p ≡ 0 → gap p ≡ []
+unfolding gap
+gap-none p e = ap gap e
+
+pub gap-some : (p : ℕ) → 0 < p → gap p ≡ 32 ∷ []
+unfolding gap ascii
+gap-some zero h = absurd (omega arith)
+gap-some (suc p) h = refl
+
+unfoldable pub after : ℕ → List Kind → List ℕ
+after zero ks = drop 1 (each spaced ks)
+after (suc p) ks = each spaced ks
+
+after-none : (p : ℕ) → after p [] ≡ []
+unfolding after
+after-none zero = refl
+after-none (suc p) = refl
+
+after-more : (p : ℕ) (k : Kind) (ks : List Kind) (q : ℕ) → p < q → after p (k ∷ ks) ≡ gap p ++ kindText k ++ after q ks
+unfolding after gap ascii
+after-more p k ks zero h = absurd (omega arith)
+after-more zero k ks (suc q) h = refl
+after-more (suc p) k ks (suc q) h = refl
+
+pub record Left (n : ℕ) (s text : List ℕ) (at place next : ℕ) (out now : List ℕ) : Type 0 where
+  pub rest : List Kind
+  pub bytes : drop place s ≡ each bytesOf rest
+  pub flags : Every (FlagBelow n) rest
+  pub done : List ℕ
+  pub put : Put done at next out now
+  pub whole : done ++ after place rest ≡ text
+
+drop-past : (s : List ℕ) (p : ℕ) (x b : List ℕ) → drop p s ≡ x ++ b → drop (p + length x) s ≡ b
+drop-past s p x b e = sym (drop-drop (length x) p s) ∙ ap (drop (length x)) e ∙ drop-append-seam x b
+
+module _ (n : ℕ) (s : List ℕ) where
+  start-of : (t : Tree) → Below 256 s → made n s ≡ gives t → (at : ℕ) (out : List ℕ) → Left n s (records t) at 0 at out out
+  unfolding after
+  start-of t small e at out =
+      let w = made-is n s t small e in
+      record {
+        rest = kinds t;
+        bytes = w .bytes ∙ write-kinds t;
+        flags = flags-kinds n t (w .flags);
+        done = [];
+        put = put-none at out;
+        whole = ap (drop 1) (sym (records-kinds t));
+      }
+
+  pub left-start : WellFormed n s → Below 256 s → (at : ℕ) (out : List ℕ) → Left n s (shown (made n s)) at 0 at out out
+  unfolding WellFormed
+  left-start m small at out =
+      subst (λ (l : List ℕ). Left n s l at 0 at out out) (sym (ap shown (m .1))) (start-of (m .0) small (m .1) at out)
+
+module _ {n : ℕ} {s text : List ℕ} {at place next : ℕ} {out now : List ℕ} (w : Left n s text at place next out now) where
+  -- the next record, and the records after it
+  pub record Next (r : Found) : Type 0 where
+    pub others : List Kind
+    pub is : w .rest ≡ r .kind ∷ others
+    pub behind : r .next ≡ place + length (bytesOf (r .kind))
+
+  -- where bytes are left a record stands
+  stands : place < length s → (r : Found) × (recordAt n s place ≡ gives r) × Next r
+  stands h = go (w .rest) refl (w .bytes) (w .flags)
+    where
+      go : (ks : List Kind) → w .rest ≡ ks → drop place s ≡ each bytesOf ks → Every (FlagBelow n) ks → (r : Found) × (recordAt n s place ≡ gives r) × Next r
+      go [] e b f = absurd (omega (arith, length-drop place s, ap length b))
+      go (k ∷ ks) e b f =
+          (record { kind = k; next = place + length (bytesOf k) }, record-at n s place k (each bytesOf ks) b (f .0), record { others = ks; is = e; behind = refl })
+
+  pub left-next : place < length s → (r : Found) → Read n s place r → Next r
+  left-next h r f = let d = stands h in subst Next (gives-same (sym (d .1) ∙ f .stands)) (d .2)
+
+  pub left-found : n ≤ ruleFlags → place < length s → (r : Reading) → readingOf r ≡ read n s place
+      → (tagOf the-type r ≡ 1) ⊎ (tagOf the-type r ≡ 2) → ⊥
+  left-found l h (Reading.Found node) e o = ⊎-elim (λ q. omega arith) (λ q. omega arith) o
+  left-found l h Reading.End e o = omega (arith, read-end n s place (sym e))
+  left-found l h (Reading.Refused x) e o =
+      let p = sym (stands h .1) ∙ read-refused n s place (x .number) (x .place) l (sym e) .1 in
+      let z : _≡_ {A = ℕ} 0 1 = cc in omega arith
+
+  pub left-end : length s ≤ place → Put text at next out now
+  left-end h = go (w .rest) (w .bytes) (w .whole)
+    where
+      go : (ks : List Kind) → drop place s ≡ each bytesOf ks → w .done ++ after place ks ≡ text → Put text at next out now
+      go [] b e = put-eq (sym (append-nil (w .done)) ∙ ap (λ (l : List ℕ). w .done ++ l) (sym (after-none place)) ∙ e) (w .put)
+      go (k ∷ ks) b e = absurd (omega (arith, bytesOf-long k, length-drop place s, ap length b, length-append (bytesOf k) (each bytesOf ks)))
+
+  module _ {r : Found} (d : Next r) where
+    ahead : place < r .next
+    ahead = omega (arith, bytesOf-long (r .kind), d .behind)
+
+    -- what is left to print, from the next record on
+    text-left : after place (w .rest) ≡ gap place ++ kindText (r .kind) ++ after (r .next) (d .others)
+    text-left = ap (after place) (d .is) ∙ after-more place (r .kind) (d .others) (r .next) ahead
+
+    room-left : Room text at out → Room (gap place ++ kindText (r .kind)) next now
+    room-left h =
+        room-first (after (r .next) (d .others))
+        (room-eq text-left (room-next (after place (w .rest)) (room-eq (sym (w .whole)) h) (w .put)))
+
+    pub left-gap : Room text at out → Room (gap place) next now
+    left-gap h = room-first (kindText (r .kind)) (room-left h)
+
+    module _ {mid : ℕ} {then : List ℕ} (p : Put (gap place) next mid now then) where
+      pub left-kind : Room text at out → Room (kindText (r .kind)) mid then
+      left-kind h = room-next (kindText (r .kind)) (room-left h) p
+
+      pub left-step : {end : ℕ} {last : List ℕ} → Put (kindText (r .kind)) mid end then last → Left n s text at (r .next) end out last
+      left-step q = record {
+        rest = d .others;
+        bytes =
+            ap (λ (i : ℕ). drop i s) (d .behind)
+            ∙ drop-past s place (bytesOf (r .kind)) (each bytesOf (d .others)) (w .bytes ∙ ap (each bytesOf) (d .is));
+        flags = subst (Every (FlagBelow n)) (d .is) (w .flags) .1;
+        done = w .done ++ (gap place ++ kindText (r .kind));
+        put = put-append (w .put) (put-append p q);
+        whole =
+            append-assoc (w .done) (gap place ++ kindText (r .kind)) (after (r .next) (d .others))
+            ∙ ap (λ (l : List ℕ). w .done ++ l) (sym text-left) ∙ w .whole;
+      }

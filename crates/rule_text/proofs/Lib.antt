@@ -1,0 +1,9 @@
+pub mod Put
+pub mod Decimal
+pub mod RecordList
+pub mod Left
+pub mod KindText
+pub mod Line
+pub mod Report
+pub mod Compiling
+pub mod Digits

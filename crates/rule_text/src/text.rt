@@ -1,0 +1,124 @@
+// Text written at a place of a lent buffer: byte strings, numbers, records, and the three lines of a rule.
+use expr::Kind;
+use expr::Reading;
+ghost use mathlib.Core.List.{_++_};
+ghost use Prim.Native.Nat.{_≤_, _<_};
+ghost use lib.ListN.{length};
+ghost use Rattle.rules.specs.Limits.{ruleFlags};
+ghost use Rattle.rules.specs.Machine.{made, WellFormed};
+ghost use Rattle.rules.specs.Text.{decimal};
+ghost use Rattle.expr.specs.Answers.{kindOf, IndexBelow};
+ghost use Rattle.rule_text.specs.Parts.{gap, kindText, shown, firstLine, lastLine, lines, Printable};
+ghost use Rattle.rule_text.specs.Put.{Room, Put};
+
+// A byte string.
+pub fn put_text(text: &[u8], out: &mut [u8], at: usize) -> usize
+    requires { ⌜ Room (now text) at (now out) ⌝ }
+    ensures { λ r. ⌜ Put (now (text .entry)) at r (now (out .entry)) (now (out .exit)) ⌝ }
+{
+    for i in 0..text.len() {
+        out[at + i] = text[i];
+    }
+    at + text.len()
+}
+
+// A number of at most three digits in base ten.
+fn put_decimal(number: usize, out: &mut [u8], at: usize) -> usize
+    requires { ⌜ (number < 1000) × Room (decimal number) at (now out) ⌝ }
+    ensures { λ r. ⌜ Put (decimal number) at r (now (out .entry)) (now (out .exit)) ⌝ }
+{
+    let ones = b'0' + (number % 10) as u8;
+    if number < 10 {
+        return put_text(&[ones], out, at);
+    }
+    let tens = b'0' + (number / 10 % 10) as u8;
+    if number < 100 {
+        return put_text(&[tens, ones], out, at);
+    }
+    let hundreds = b'0' + (number / 100) as u8;
+    put_text(&[hundreds, tens, ones], out, at)
+}
+
+// A text and a number.
+fn put_number(label: &[u8], number: usize, out: &mut [u8], at: usize) -> usize
+    requires { ⌜ (number < 1000) × Room (now label ++ decimal number) at (now out) ⌝ }
+    ensures { λ r. ⌜ Put (now (label .entry) ++ decimal number) at r (now (out .entry)) (now (out .exit)) ⌝ }
+{
+    let digits = put_text(label, out, at);
+    put_decimal(number, out, digits)
+}
+
+// A record's mark, and its payload as a digit.
+fn put_kind(kind: Kind, out: &mut [u8], at: usize) -> usize
+    requires { ⌜ IndexBelow 10 (kindOf kind) × Room (kindText (kindOf kind)) at (now out) ⌝ }
+    ensures { λ r. ⌜ Put (kindText (kindOf kind)) at r (now (out .entry)) (now (out .exit)) ⌝ }
+{
+    match kind {
+        Kind::Constant(b) => put_text(&[b'C', b'O', b'0' + (b == 1) as u8], out, at),
+        Kind::Variable(i) => put_text(&[b'V', b'A', b'0' + i], out, at),
+        Kind::And => put_text(b"AN", out, at),
+        Kind::Or => put_text(b"OR", out, at),
+        Kind::Xor => put_text(b"XO", out, at),
+        Kind::Not => put_text(b"NO", out, at),
+    }
+}
+
+// A space before every record but the first.
+fn put_gap(place: usize, out: &mut [u8], at: usize) -> usize
+    requires { ⌜ Room (gap place) at (now out) ⌝ }
+    ensures { λ r. ⌜ Put (gap place) at r (now (out .entry)) (now (out .exit)) ⌝ }
+{
+    if place == 0 {
+        return at;
+    }
+    put_text(b" ", out, at)
+}
+
+// The records of an expression.
+fn put_records(flags: usize, expression: &[u8], out: &mut [u8], at: usize) -> usize
+    requires { ⌜ (flags ≤ ruleFlags) × WellFormed flags (now expression) × Room (shown (made flags (now expression))) at (now out) ⌝ }
+    ensures { λ r. ⌜ Put (shown (made flags (now (expression .entry)))) at r (now (out .entry)) (now (out .exit)) ⌝ }
+{
+    let mut next = at;
+    let mut place = 0;
+    while place < expression.len() {
+        let answer = expr::read(flags, expression, place);
+        let Reading::Found(node) = answer else {
+            return next;
+        };
+        let kind = node.kind;
+        let start = put_gap(place, out, next);
+        next = put_kind(kind, out, start);
+        place = node.next;
+    }
+    next
+}
+
+// Line one.
+fn put_flags(flags: usize, out: &mut [u8], at: usize) -> usize
+    requires { ⌜ (flags < 1000) × Room (firstLine flags) at (now out) ⌝ }
+    ensures { λ r. ⌜ Put (firstLine flags) at r (now (out .entry)) (now (out .exit)) ⌝ }
+{
+    let end = put_number(b"flags ", flags, out, at);
+    put_text(b"\n", out, end)
+}
+
+// Line three, after the newline that ends line two.
+fn put_costs(cost: usize, raw: usize, out: &mut [u8], at: usize) -> usize
+    requires { ⌜ (cost < 1000) × (raw < 1000) × Room (lastLine cost raw) at (now out) ⌝ }
+    ensures { λ r. ⌜ Put (lastLine cost raw) at r (now (out .entry)) (now (out .exit)) ⌝ }
+{
+    let first = put_number(b"\ncost ", cost, out, at);
+    let second = put_number(b" raw ", raw, out, first);
+    put_text(b"\n", out, second)
+}
+
+// The three lines of a rule, at the front of the buffer.
+pub fn put_lines(flags: usize, expression: &[u8], cost: usize, raw: usize, out: &mut [u8]) -> usize
+    requires { ⌜ Printable flags (now expression) cost raw × (1400 ≤ length (now out)) ⌝ }
+    ensures { λ r. ⌜ Put (lines flags (shown (made flags (now (expression .entry)))) cost raw) 0 r (now (out .entry)) (now (out .exit)) ⌝ }
+{
+    let records = put_flags(flags, out, 0);
+    let costs = put_records(flags, expression, out, records);
+    put_costs(cost, raw, out, costs)
+}
