@@ -1,0 +1,288 @@
+//! Runs the original Rust and the library on the same inputs in one process and prints, for each call, the original's time over ours.
+//! It rests on the crate `original`, which `oracle/build.sh` makes of the sources handed to it, and on the static library `bench_calls`.
+
+use std::hint::black_box;
+use std::sync::Arc;
+use std::time::Instant;
+
+use original::core::expr::{Expr, Kind};
+use original::core::expr_cost::compute_cost;
+use original::ir::anf_cleanup::{anf_expr_cost, build_anf_expr, AnfForm};
+use original::ir::anf_transform::compute_anf;
+use original::ir::packed_anf::PackedAnf;
+
+mod calls {
+    #[link(name = "bench_calls", kind = "static")]
+    extern "C" {
+        pub fn bench_compile(flags: usize, table: *const u64, entries: usize, out: *mut u8, room: usize) -> usize;
+        pub fn bench_transform(flags: usize, table: *const u64, entries: usize, out: *mut u64, room: usize) -> u64;
+        pub fn bench_way_back(flags: usize, words: *const u64, count: usize, out: *mut u64, room: usize) -> u64;
+        pub fn bench_listing(flags: usize, words: *const u64, count: usize, out: *mut u32, room: usize) -> u64;
+        pub fn bench_raw_cost(flags: usize, words: *const u64, count: usize) -> u64;
+        pub fn bench_costing(flags: usize, bytes: *const u8, length: usize) -> u64;
+        pub fn bench_evaluate(flags: usize, bytes: *const u8, length: usize, setting: usize) -> u64;
+        pub fn bench_examine(flags: usize, table: *const u64, entries: usize, bytes: *const u8, length: usize) -> u64;
+    }
+}
+
+/// SplitMix64 of Steele, Lea and Flood (2014).
+struct Random(u64);
+
+impl Random {
+    fn next(&mut self) -> u64 {
+        self.0 = self.0.wrapping_add(0x9E37_79B9_7F4A_7C15);
+        let mut z = self.0;
+        z = (z ^ (z >> 30)).wrapping_mul(0xBF58_476D_1CE4_E5B9);
+        z = (z ^ (z >> 27)).wrapping_mul(0x94D0_49BB_1331_11EB);
+        z ^ (z >> 31)
+    }
+}
+
+/// Tables of a kind: random, few ones, few zeros, or few coefficients.
+fn table(n: usize, kind: &str, random: &mut Random) -> Vec<u64> {
+    let settings = 1usize << n;
+    let mut bits: Vec<u64> = (0..settings).map(|_| random.next() & 1).collect();
+    match kind {
+        "sparse" => bits.iter_mut().for_each(|b| *b = (random.next() % 8 == 0) as u64),
+        "dense" => bits.iter_mut().for_each(|b| *b = (random.next() % 8 != 0) as u64),
+        "few coefficients" => {
+            let words: Vec<u64> = (0..settings).map(|_| (random.next() % 8 == 0) as u64).collect();
+            let anf = compute_anf(&words, n as u32);
+            bits = (0..settings).map(|m| anf.get(m) as u64).collect();
+        }
+        _ => {}
+    }
+    bits
+}
+
+/// The postfix bytes of a tree.
+fn written(tree: &Expr, out: &mut Vec<u8>) {
+    for child in &tree.children {
+        written(child, out);
+    }
+    match &tree.kind {
+        Kind::Constant(value) => out.extend([b'C', b'O', *value as u8]),
+        Kind::Variable(index) => out.extend([b'V', b'A', *index as u8]),
+        Kind::And => out.extend(b"AN"),
+        Kind::Or => out.extend(b"OR"),
+        Kind::Xor => out.extend(b"XO"),
+        Kind::Not => out.extend(b"NO"),
+        other => panic!("a rule has no {other:?}"),
+    }
+}
+
+/// A tree's value at a setting, over the original's tree.
+fn value(tree: &Expr, setting: u64) -> u64 {
+    match &tree.kind {
+        Kind::Constant(value) => *value,
+        Kind::Variable(index) => setting >> index & 1,
+        Kind::And => value(&tree.children[0], setting) & value(&tree.children[1], setting),
+        Kind::Or => value(&tree.children[0], setting) | value(&tree.children[1], setting),
+        Kind::Xor => value(&tree.children[0], setting) ^ value(&tree.children[1], setting),
+        Kind::Not => 1 ^ value(&tree.children[0], setting),
+        other => panic!("a rule has no {other:?}"),
+    }
+}
+
+const ROUNDS: usize = 7;
+
+/// Nanoseconds of one call on each input: the least of several rounds, the two sides in turn.
+fn measure(inputs: usize, repeat: usize, mut original: impl FnMut(usize), mut ours: impl FnMut(usize)) -> (Vec<f64>, Vec<f64>) {
+    let (mut a, mut b) = (vec![f64::MAX; inputs], vec![f64::MAX; inputs]);
+    for _ in 0..ROUNDS {
+        for i in 0..inputs {
+            let start = Instant::now();
+            (0..repeat).for_each(|_| original(i));
+            a[i] = a[i].min(start.elapsed().as_nanos() as f64 / repeat as f64);
+            let start = Instant::now();
+            (0..repeat).for_each(|_| ours(i));
+            b[i] = b[i].min(start.elapsed().as_nanos() as f64 / repeat as f64);
+        }
+    }
+    (a, b)
+}
+
+fn mean(times: &[f64]) -> f64 {
+    times.iter().sum::<f64>() / times.len() as f64
+}
+
+/// The mean of the slowest tenth.
+fn slowest(times: &[f64]) -> f64 {
+    let mut sorted = times.to_vec();
+    sorted.sort_by(f64::total_cmp);
+    mean(&sorted[sorted.len() - sorted.len().div_ceil(10)..])
+}
+
+fn row(call: &str, inputs: &str, (a, b): (Vec<f64>, Vec<f64>)) {
+    println!(
+        "| {call} | {inputs} | {:.0} | {:.0} | {:.1} | {:.1} |",
+        mean(&a),
+        mean(&b),
+        mean(&a) / mean(&b),
+        slowest(&a) / slowest(&b)
+    );
+}
+
+fn compiling(random: &mut Random) {
+    for n in 3..=6usize {
+        for kind in ["random", "sparse", "dense", "few coefficients"] {
+            let tables: Vec<Vec<u64>> = (0..60).map(|_| table(n, kind, random)).collect();
+            let mut out = [0u8; 963];
+            let repeat = [200, 60, 12, 3][n - 3];
+            let times = measure(
+                tables.len(),
+                repeat,
+                |i| {
+                    black_box(build_anf_expr(&compute_anf(black_box(&tables[i]), n as u32), n as u32));
+                },
+                |i| {
+                    let t = black_box(&tables[i]);
+                    black_box(unsafe { calls::bench_compile(n, t.as_ptr(), t.len(), out.as_mut_ptr(), out.len()) });
+                },
+            );
+            row(&format!("compile, {n} flags"), kind, times);
+        }
+    }
+}
+
+fn transforming(random: &mut Random) {
+    for n in [6usize, 10, 16] {
+        let tables: Vec<Vec<u64>> = (0..8).map(|_| table(n, "random", random)).collect();
+        let repeat = [2000, 200, 4][[6, 10, 16].iter().position(|&m| m == n).unwrap()];
+        let mut words = vec![0u64; 1024];
+        let times = measure(
+            tables.len(),
+            repeat,
+            |i| {
+                black_box(compute_anf(black_box(&tables[i]), n as u32));
+            },
+            |i| {
+                let t = black_box(&tables[i]);
+                black_box(unsafe { calls::bench_transform(n, t.as_ptr(), t.len(), words.as_mut_ptr(), words.len()) });
+            },
+        );
+        row(&format!("transform, {n} flags"), "random", times);
+        let coefficients: Vec<PackedAnf> = tables.iter().map(|t| compute_anf(t, n as u32)).collect();
+        let mut entries = vec![0u64; 1 << n];
+        let mut back = vec![0u64; 1 << n];
+        let times = measure(
+            tables.len(),
+            repeat,
+            |i| {
+                // The original has no way back: its transform of the coefficients, unpacked, is the same XOR over subsets.
+                let words = black_box(&coefficients[i]);
+                for (m, entry) in entries.iter_mut().enumerate() {
+                    *entry = words.get(m) as u64;
+                }
+                let values = compute_anf(&entries, n as u32);
+                for (s, entry) in entries.iter_mut().enumerate() {
+                    *entry = values.get(s) as u64;
+                }
+                black_box(&entries);
+            },
+            |i| {
+                let w = black_box(coefficients[i].words());
+                black_box(unsafe { calls::bench_way_back(n, w.as_ptr(), w.len(), back.as_mut_ptr(), back.len()) });
+            },
+        );
+        row(&format!("way back, {n} flags"), "random", times);
+    }
+}
+
+fn listing(random: &mut Random) {
+    let n = 16usize;
+    for kind in ["random", "few coefficients"] {
+        let forms: Vec<PackedAnf> = (0..6).map(|_| compute_anf(&table(n, kind, random), n as u32)).collect();
+        let mut out = vec![0u32; 1 << n];
+        let times = measure(
+            forms.len(),
+            3,
+            |i| {
+                black_box(AnfForm::from_anf_coeffs(black_box(&forms[i]), n as u32));
+            },
+            |i| {
+                let w = black_box(forms[i].words());
+                black_box(unsafe { calls::bench_listing(n, w.as_ptr(), w.len(), out.as_mut_ptr(), out.len()) });
+            },
+        );
+        row("listing, 16 flags", kind, times);
+    }
+}
+
+fn expressions(random: &mut Random) {
+    for n in 3..=6usize {
+        let tables: Vec<Vec<u64>> = (0..60).map(|_| table(n, "random", random)).collect();
+        let trees: Vec<Arc<Expr>> = tables.iter().map(|t| build_anf_expr(&compute_anf(t, n as u32), n as u32)).collect();
+        let forms: Vec<PackedAnf> = tables.iter().map(|t| compute_anf(t, n as u32)).collect();
+        let bytes: Vec<Vec<u8>> = trees
+            .iter()
+            .map(|t| {
+                let mut out = Vec::new();
+                written(t, &mut out);
+                out
+            })
+            .collect();
+        let repeat = 400;
+        let times = measure(
+            trees.len(),
+            repeat,
+            |i| {
+                let t = black_box(&trees[i]);
+                black_box((anf_expr_cost(t), compute_cost(t)));
+            },
+            |i| {
+                let b = black_box(&bytes[i]);
+                black_box(unsafe { calls::bench_costing(n, b.as_ptr(), b.len()) });
+            },
+        );
+        row(&format!("costing, {n} flags"), "random tables' expressions", times);
+        let times = measure(
+            trees.len(),
+            repeat,
+            |i| {
+                black_box(value(black_box(&trees[i]), i as u64 & ((1 << n) - 1)));
+            },
+            |i| {
+                let b = black_box(&bytes[i]);
+                black_box(unsafe { calls::bench_evaluate(n, b.as_ptr(), b.len(), i & ((1 << n) - 1)) });
+            },
+        );
+        row(&format!("evaluation, {n} flags"), "random tables' expressions", times);
+        let times = measure(
+            trees.len(),
+            repeat / 8,
+            |i| {
+                let (t, bits) = (black_box(&trees[i]), black_box(&tables[i]));
+                black_box((0..1u64 << n).all(|s| value(t, s) == bits[s as usize]));
+            },
+            |i| {
+                let (b, t) = (black_box(&bytes[i]), black_box(&tables[i]));
+                black_box(unsafe { calls::bench_examine(n, t.as_ptr(), t.len(), b.as_ptr(), b.len()) });
+            },
+        );
+        row(&format!("examination, {n} flags"), "random tables' expressions", times);
+        let times = measure(
+            trees.len(),
+            repeat,
+            |i| {
+                // The original's raw cost takes a listed form, which it makes of the coefficients.
+                black_box(AnfForm::from_anf_coeffs(black_box(&forms[i]), n as u32).monomials.iter().map(|m| 2 * m.count_ones()).sum::<u32>());
+            },
+            |i| {
+                let w = black_box(forms[i].words());
+                black_box(unsafe { calls::bench_raw_cost(n, w.as_ptr(), w.len()) });
+            },
+        );
+        row(&format!("raw costing, {n} flags"), "random tables' coefficients", times);
+    }
+}
+
+fn main() {
+    let mut random = Random(11);
+    println!("| Call | Inputs | Original, ns | Ours, ns | Ratio of means | Ratio of slowest tenths |");
+    println!("|---|---|---|---|---|---|");
+    compiling(&mut random);
+    transforming(&mut random);
+    listing(&mut random);
+    expressions(&mut random);
+}
