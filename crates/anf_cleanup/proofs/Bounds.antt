@@ -1,7 +1,7 @@
 -- Bounds for forms in one word, so of at most six flags: their flags are below 64, and every cost is small.
 -- They rest on the cleanup's cost (rules, Size) and on the costs of parts (rules, Cost). Assumes nothing.
 --   digit-le                               == a constant is 1 at most
---   flags-below                            == the flags that occur in a form
+--   flags-below, flags-some                == the flags that occur in a form; of two masks one has a flag
 --   raw-limit, cleanup-limit, inner-limit  == raw cost, and the cost of a cleaned form and of a cleaned inner form
 --   product-limit, chain-limit             == the cost of a product, and of an OR chain
 --   pair-bounds, pair-limit                == two monomials ascend, from 1 to 63; the cost of both products of an absorption
@@ -13,13 +13,16 @@ use native.Mathlib.Nat.{le-trans}
 use native.Mathlib.Omega.{arith}
 use lib.Count.{ones, ones-le}
 use lib.Dec.{ltb}
+use lib.ListN.{length}
 use borrow.Author.Tests.{ltb-true, ltb-false}
 use Rattle.bits.specs.Bit.{digit}
 use Rattle.bits.specs.Range.{mem, Ascending, Below}
 use Rattle.bits.specs.Sum.{union}
 use Rattle.bits.specs.Word.{places}
 use Rattle.bits.proofs.Ascending.{ascending-keep, below-keep}
-use Rattle.bits.proofs.Range.{mem-head, mem-keep}
+use Rattle.bits.proofs.Mask.{within-le}
+use Rattle.bits.proofs.Range.{mem-head, mem-tail, mem-keep}
+use Rattle.bits.proofs.Sum.{union-mem}
 use Rattle.bits.proofs.Truth.{and-true-r}
 use Rattle.bits.proofs.Union.{union-lt}
 use Rattle.bits.proofs.Word.{ascending-places, below-places}
@@ -38,6 +41,16 @@ digit-le false = omega arith
 module _ (w : ℕ) where
   pub flags-below : union (places 64 w) < 64
   flags-below = union-lt 6 (places 64 w) (below-places 64 w)
+
+  pub flags-some : 2 ≤ length (places 64 w) → 0 < union (places 64 w)
+  flags-some h = go (places 64 w) (ascending-places 64 w) h
+    where
+      go : (k : List ℕ) → Ascending k → 2 ≤ length k → 0 < union k
+      go [] s p = absurd (omega arith)
+      go (m ∷ []) s p = absurd (omega arith)
+      go (m ∷ o ∷ k) s p =
+          let l : List ℕ = m ∷ o ∷ k in
+          omega (arith, s .0, within-le o (union l) (union-mem l o (mem-tail m (o ∷ k) o (mem-head o k))))
 
   pub raw-limit : rawCost (places 64 w) ≤ 385
   raw-limit = rawCost-limit 6 (places 64 w) (omega arith) (ascending-places 64 w) (below-places 64 w)

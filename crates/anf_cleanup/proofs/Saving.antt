@@ -1,16 +1,18 @@
 -- What a cube saves, from its inner form alone: the covered monomials have the inner form's literals and the cube's flags once each. And the best
--- after a cube is tried, by what it saves. It rests on the literals of covered monomials (rules, Literals), on raw cost by literals (rules, Cost)
--- and on the cleanup's cost (rules, Size). Assumes nothing.
---   tried-skipped              == a mask that is no candidate leaves the best as it is
---   spread c w                 == what the flags of the cube c cost in all masks of the inner word w but one
---   saving c w r d n           == what the cube saves, where the inner form has raw cost r, the constant d and the cleaned cost n
---   stripped-cube              == the stripped form of a candidate cube, with its raw cost and its cleaned cost
---   saving-bounds              == the numbers that a saving is made of fit, and the subtractions do not wrap
---   saving-cube                == a saving is document 01's
---   taken-more, taken-kept     == a cube that saves more than the best so far takes its place, and one that does not leaves it
+-- after a cube is tried, by what it saves, or by the most that it can save. It rests on the literals of covered monomials (rules, Literals), on raw cost by
+-- literals (rules, Cost), and on the cleanup's cost and its floor (rules, Size and Floor). Assumes nothing.
+--   tried-skipped                  == a mask that is no candidate leaves the best as it is
+--   spread c n                     == what the flags of the cube c cost in all but one of n masks; spread-least and spread-limit bound it
+--   gross-sum                      == a gross saving as the code adds it up
+--   Candidate l c k                == c is a candidate cube of the form l, and k is its stripped form
+--   stripped-cube                  == then k may be a stripped form of c
+--   inner-bounds                   == no number of these is above the next: the cost of the OR chain of k's flags, of k cleaned, of k raw, the gross saving
+--   cost-stripped, saving-cube     == k's cleaned cost is the stripped form's, and the gross saving less that is document 01's saving
+--   taken-more, taken-kept         == a cube that saves more than the best so far takes its place, and one that does not leaves it
+--   tried-passed                   == so does one that would not save more even with an inner form of the least cost
 use mathlib.Core.Bool.{Bool, true, false}
 use mathlib.Core.List.{List}
-use mathlib.Core.Path.{_≡_, sym, ap, subst, _∙_}
+use mathlib.Core.Path.{_≡_, refl, sym, ap, ap₂, subst, _∙_}
 use mathlib.Mathlib.Data.Bool.Basic.{eq-false-of-not-eq-true}
 use Prim.Native.Nat.{ℕ, _+_, _-_, _*_, _^_, _≤_, _<_}
 use native.Mathlib.Nat.{mul-le-mul, mul-le-mul-left, mul-comm, mul-assoc, mul-sub, mul-one}
@@ -19,23 +21,25 @@ use lib.Count.{ones, ones-le}
 use lib.Dec.{ltb}
 use lib.ListN.{length, length-map}
 use borrow.Author.Tests.{lt-ltb, le-ltb}
-use Rattle.bits.specs.Bit.{digit}
-use Rattle.bits.specs.Range.{Ascending}
+use Rattle.bits.specs.Bit.{bit, digit}
+use Rattle.bits.specs.Range.{upto, Ascending}
+use Rattle.bits.specs.Sum.{union}
 use Rattle.bits.specs.Word.{places}
 use Rattle.bits.proofs.Mask.{zero-within, ones-pos}
-use Rattle.bits.proofs.Word.{ascending-places, ones-places}
+use Rattle.bits.proofs.Range.{length-from, length-keep}
 use Rattle.rules.specs.Cleanup.{cleanup, covered, stripped, isCube, cubeSaving, better}
 use Rattle.rules.specs.Cleanup as paper
-use Rattle.rules.specs.Form.{rawCost, literals}
+use Rattle.rules.specs.Form.{cube, orChain, rawCost, literals}
 use Rattle.rules.specs.Monomial.{constant}
 use Rattle.rules.specs.Tree.{cost}
 use Rattle.rules.proofs.Cost.{cost-cube, termCost-suc, raw-literals}
 use Rattle.rules.proofs.Covered.{covered-within, ascending-covered, ascending-stripped}
+use Rattle.rules.proofs.Floor.{chain-cleanup}
 use Rattle.rules.proofs.Literals.{literals-covered}
 use Rattle.rules.proofs.Size.{cost-cleanup}
-use Rattle.anf_cleanup.specs.Plan.{bestOf, tried, Stripped, Taken, Tried}
+use Rattle.anf_cleanup.specs.Plan.{bestOf, tried, Stripped, gross, Taken, Tried}
 use Rattle.anf_cleanup.specs.declared.Best.{Best}
-use Rattle.anf_cleanup.proofs.Bounds.{digit-le, raw-limit}
+use Rattle.anf_cleanup.proofs.Bounds.{digit-le}
 use Rattle.anf_cleanup.proofs.Candidates.{isCube-many}
 
 -- ---- one more mask
@@ -60,80 +64,88 @@ module _ (l : List ℕ) (c : ℕ) (b : Best) where
 -- ---- what a cube saves
 
 abbrev pub spread : ℕ → ℕ → ℕ
-spread c w = 2 * ones c * (ones w - 1)
+spread c n = 2 * ones c * (n - 1)
 
-abbrev pub saving : ℕ → ℕ → ℕ → ℕ → ℕ → ℕ
-saving c w r d n = r + spread c w - 2 * d - n
+pub gross-sum : (c : ℕ) (k : List ℕ) (r n d : ℕ) → r ≡ rawCost k → n ≡ length k → d ≡ digit (constant k) → r + spread c n - 2 * d ≡ gross c k
+unfolding gross
+gross-sum c k r n d p q e = cc
+
+module _ (c : ℕ) (k : List ℕ) {r : ℕ} (h : Stripped c k r) where
+  pub spread-least : (n : ℕ) → n ≡ length k → 2 ≤ spread c n
+  spread-least n e = mul-le-mul {n₁ = 2} {m₁ = 1} (omega (arith, ones-pos c (h .nonzero))) (omega (arith, h .many))
+
+  gross-raw : rawCost k ≤ gross c k
+  unfolding gross
+  gross-raw = omega (arith, spread-least (length k) refl, digit-le (constant k))
+
+pub spread-limit : (c w n : ℕ) → c < 2 ^ 64 → n ≡ length (places 64 w) → spread c n ≤ 8064
+unfolding places
+spread-limit c w n h e =
+    mul-le-mul {n₂ = 128} {m₂ = 63} (omega (arith, ones-le 64 c h)) (omega (arith, length-keep (bit w) (upto 64), length-from 0 64))
 
 -- something of each of k masks, and of all but one
 each : (u k : ℕ) → 1 ≤ k → 2 * (k * u) ≡ 2 * u * (k - 1) + 2 * u
 each u k h = omega (arith, mul-sub (2 * u) k 1, mul-one (2 * u), mul-assoc 2 u k, mul-comm u k, mul-le-mul-left (2 * u) h)
 
-module _ (c : ℕ) (l : List ℕ) where
-  stripped-length : length (stripped c l) ≡ length (covered c l)
+pub record Candidate (l : List ℕ) (c : ℕ) (k : List ℕ) : Type 0 where
+  pub rises : Ascending l
+  pub nonzero : 0 < c
+  pub test : isCube l c ≡ true
+  pub inner : k ≡ stripped c l
+
+module _ (l : List ℕ) (c : ℕ) (k : List ℕ) (u : Candidate l c k) where
+  size : length k ≡ length (covered c l)
   unfolding stripped
-  stripped-length = length-map (covered c l) (λ m. m - c)
+  size = ap length (u .inner) ∙ length-map (covered c l) (λ m. m - c)
 
-  no-constant : 0 < c → constant (covered c l) ≡ false
-  no-constant p = eq-false-of-not-eq-true (λ e. omega (arith, zero-within c (covered-within c l 0 e)))
+  rising : Ascending k
+  rising = subst Ascending (sym (u .inner)) (ascending-stripped c l (u .rises))
 
-pub stripped-cube : (l : List ℕ) (c : ℕ) (k : List ℕ) (r n : ℕ) → Ascending l → 0 < c → isCube l c ≡ true → k ≡ stripped c l
-    → r ≡ rawCost k → n ≡ cost (cleanup k) → Stripped c k r n
-stripped-cube l c k r n s p e q x y = record {
-  nonzero = p;
-  many = omega (arith, ap length q, stripped-length c l, isCube-many l c e);
-  raw = x;
-  least = omega (arith, cost-cleanup k (subst Ascending (sym q) (ascending-stripped c l s)));
-}
+  no-constant : constant (covered c l) ≡ false
+  no-constant = eq-false-of-not-eq-true (λ e. omega (arith, u .nonzero, zero-within c (covered-within c l 0 e)))
 
-module _ (c w : ℕ) (fc : c < 2 ^ 64) (fw : w < 2 ^ 64) {r n : ℕ} (h : Stripped c (places 64 w) r n) where
-  pub saving-bounds : (2 ≤ ones w) × (2 ≤ spread c w) × (spread c w ≤ 8064) × (r ≤ 385)
-  saving-bounds =
-      let many : 2 ≤ ones w = omega (arith, ones-places 64 w fw, h .many) in
-      let flag = ones-pos c (h .nonzero) in
-      let few = ones-le 64 c fc in
-      let masks = ones-le 64 w fw in (
-        many,
-        mul-le-mul {n₁ = 2} {m₁ = 1} (omega arith) (omega arith),
-        mul-le-mul {n₂ = 128} {m₂ = 63} (omega arith) (omega arith),
-        omega (arith, h .raw, raw-limit w),
-      )
+  pub stripped-cube : (r : ℕ) → r ≡ rawCost k → Stripped c k r
+  stripped-cube r e = record { nonzero = u .nonzero; many = omega (arith, size, isCube-many l c (u .test)); raw = e }
 
-  pub saving-cube : (l : List ℕ) → Ascending l → isCube l c ≡ true → places 64 w ≡ stripped c l → n ≡ cost (cleanup (places 64 w))
-      → (d : ℕ) → d ≡ digit (constant (places 64 w)) → saving c w r d n ≡ cubeSaving cleanup l c
-  unfolding cubeSaving
-  saving-cube l s e q k d z =
-      let inner : List ℕ = places 64 w in
-      let size : length inner ≡ ones w = sym (ones-places 64 w fw) in
-      let same : length inner ≡ length (covered c l) = ap length q ∙ stripped-length c l in
-      let two : 2 ≤ length (covered c l) = isCube-many l c e in
+  gross-cube : gross c k ≡ rawCost (covered c l) - 1 - cost (cube c)
+  unfolding gross
+  gross-cube =
+      let s = stripped-cube (rawCost k) refl in
       omega (
         arith,
-        saving-bounds,
-        each (ones c) (length (covered c l)) (omega arith),
-        ap (λ (x : ℕ). 2 * ones c * (x - 1)) (sym size ∙ same),
-        raw-literals (covered c l) (ascending-covered c l s) (omega arith),
-        ap digit (no-constant c l (h .nonzero)),
-        raw-literals inner (ascending-places 64 w) (omega arith),
-        digit-le (constant inner),
+        spread-least c k s (length k) refl,
+        each (ones c) (length (covered c l)) (omega (arith, size, s .many)),
+        ap (λ (x : ℕ). 2 * ones c * (x - 1)) size,
+        raw-literals (covered c l) (ascending-covered c l (u .rises)) (omega (arith, size, s .many)),
+        ap digit no-constant,
+        raw-literals k rising (omega (arith, s .many)),
+        digit-le (constant k),
         literals-covered c l,
-        ap literals q,
-        ap (λ (x : List ℕ). cost (cleanup x)) q,
+        ap literals (u .inner),
         cost-cube c,
-        termCost-suc c (h .nonzero),
-        h .raw,
-        h .least,
+        termCost-suc c (u .nonzero),
       )
 
-  module _ (d : ℕ) (z : d ≡ digit (constant (places 64 w))) (b : Best) where
-    pub taken-more : b .saving < saving c w r d n → Taken c (places 64 w) n b (record { cube = c; saving = saving c w r d n; inner = n })
-    taken-more m l s e q k = record {
-      best = sym (settled l c b (saving c w r d n) e (saving-cube l s e q k d z) true (lt-ltb (b .saving) (saving c w r d n) m));
-      inner = λ _ _. k ∙ ap (λ (x : List ℕ). cost (cleanup x)) q;
-    }
+  pub inner-bounds : (cost (orChain (union k)) ≤ cost (cleanup k)) × (cost (cleanup k) ≤ rawCost k) × (rawCost k ≤ gross c k)
+  inner-bounds = (chain-cleanup k rising, cost-cleanup k rising, gross-raw c k (stripped-cube (rawCost k) refl))
 
-    pub taken-kept : saving c w r d n ≤ b .saving → Taken c (places 64 w) n b b
-    taken-kept m l s e q k = record {
-      best = sym (settled l c b (saving c w r d n) e (saving-cube l s e q k d z) false (le-ltb (b .saving) (saving c w r d n) m));
-      inner = λ i. i;
-    }
+  pub cost-stripped : (n : ℕ) → n ≡ cost (cleanup k) → n ≡ cost (cleanup (stripped c l))
+  cost-stripped n e = e ∙ ap (λ (x : List ℕ). cost (cleanup x)) (u .inner)
+
+  pub saving-cube : (g n : ℕ) → g ≡ gross c k → n ≡ cost (cleanup k) → g - n ≡ cubeSaving cleanup l c
+  unfolding cubeSaving
+  saving-cube g n p q = ap₂ (λ (x y : ℕ). x - y) (p ∙ gross-cube) (cost-stripped n q)
+
+-- ---- the best after a cube
+
+module _ (c s n : ℕ) (b : Best) where
+  pub taken-more : b .saving < s → Taken c s n b (record { cube = c; saving = s; inner = n })
+  taken-more m l e q k = record { best = sym (settled l c b s e q true (lt-ltb (b .saving) s m)); inner = λ _ _. k }
+
+  pub taken-kept : s ≤ b .saving → Taken c s n b b
+  taken-kept m l e q k = record { best = sym (settled l c b s e q false (le-ltb (b .saving) s m)); inner = λ i. i }
+
+pub tried-passed : (l : List ℕ) (c : ℕ) (k : List ℕ) (b : Best) → Candidate l c k → gross c k - cost (orChain (union k)) ≤ b .saving → Tried l c b b
+tried-passed l c k b u h =
+    taken-kept c _ _ b (omega (arith, inner-bounds l c k u)) l (u .test) (saving-cube l c k u (gross c k) (cost (cleanup k)) refl refl)
+    (cost-stripped l c k u (cost (cleanup k)) refl)

@@ -6,16 +6,18 @@
 --   Improved l us p q    == where p plans the best tree so far, q plans the best after the candidates us
 --   tried l b c          == document 01's best after the mask c is tried, where b was the best before
 --   Tried l c b r        == so of the code's b and r, which keep the cost of the cleaned inner form too
---   Stripped c k r n     == k may be a stripped form of the cube c: it has two masks or more and the raw cost r, and n is a cost of no more
---   Taken c k n b r      == r is the best after the cube c is tried, for every form of which k is the stripped form and n its cleaned cost
+--   Stripped c k r       == k may be a stripped form of the cube c: it has two masks or more, and the raw cost r
+--   gross c k            == what the cube c saves before its inner form k is paid for
+--   Taken c s n b r      == r is the best after the cube c is tried, for every form in which c saves s and its cleaned inner form costs n
 --   Chosen l b           == b is the best cube of the form l with the cost of the cleaned inner form, or no cube
 use mathlib.Core.Bool.{true, false, not}
 use mathlib.Core.List.{List, [], _∷_, foldl}
 use mathlib.Core.Path.{_≡_}
-use Prim.Native.Nat.{ℕ, _<_, _≤_}
+use Prim.Native.Nat.{ℕ, _+_, _-_, _*_, _<_, _≤_}
+use lib.Count.{ones}
 use lib.ListN.{length}
-use Rattle.bits.specs.Bit.{within}
-use Rattle.bits.specs.Range.{keep, mem, Ascending}
+use Rattle.bits.specs.Bit.{digit, within}
+use Rattle.bits.specs.Range.{keep, mem}
 use Rattle.rules.specs.Cleanup.{cleanup, family, singles, atop, isFamily, bestFamily, withRest, stripped, absorption, cheaper, isCube, cubeSaving, better, bestCube}
 use Rattle.rules.specs.Cleanup as paper
 use Rattle.rules.specs.Form.{cube, orChain, rawForm, rawCost}
@@ -75,15 +77,18 @@ pub record Tried (l : List ℕ) (c : ℕ) (b r : Best) : Type 0 where
   pub best : bestOf r ≡ tried l (bestOf b) c
   pub inner : InnerKept l b → InnerKept l r
 
-pub record Stripped (c : ℕ) (k : List ℕ) (r n : ℕ) : Type 0 where
+pub record Stripped (c : ℕ) (k : List ℕ) (r : ℕ) : Type 0 where
   pub nonzero : 0 < c
   pub many : 2 ≤ length k
   pub raw : r ≡ rawCost k
-  pub least : n ≤ r
 
-abbrev pub Taken : ℕ → List ℕ → ℕ → Best → Best → Type 0
-Taken c k n b r =
-    (l : List ℕ) → Ascending l → isCube l c ≡ true → k ≡ stripped c l → n ≡ cost (cleanup k) → Tried l c b r
+-- raw cost of the covered monomials, less 1, less the cube's cost: they have the inner form's literals, the cube's flags once each, and no constant
+unfoldable pub gross : ℕ → List ℕ → ℕ
+gross c k = rawCost k + 2 * ones c * (length k - 1) - 2 * digit (constant k)
+
+abbrev pub Taken : ℕ → ℕ → ℕ → Best → Best → Type 0
+Taken c s n b r =
+    (l : List ℕ) → isCube l c ≡ true → s ≡ cubeSaving cleanup l c → n ≡ cost (cleanup (stripped c l)) → Tried l c b r
 
 pub record Chosen (l : List ℕ) (b : Best) : Type 0 where
   pub best : b .cube ≡ bestCube cleanup l

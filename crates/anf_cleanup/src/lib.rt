@@ -3,12 +3,14 @@
 // literals fall from one cleanup to the next. It rests on `form` and on the definitions of `rules`.
 use form::Form;
 ghost use mathlib.Core.Path.{_≡_};
-ghost use Prim.Native.Nat.{_<_};
+ghost use Prim.Native.Nat.{_<_, _≤_};
+ghost use lib.ListN.{length};
+ghost use Rattle.bits.specs.Sum.{union};
 ghost use Rattle.form.specs.Masks.{masks, familyWords, supersetWords};
 ghost use Rattle.rules.specs.Cleanup as paper;
 ghost use Rattle.rules.specs.Form as raw;
 ghost use Rattle.rules.specs.Tree.{cost};
-ghost use Rattle.anf_cleanup.specs.Plan.{Planned, Cheaper, Improved, Stripped, Taken, Tried, Chosen};
+ghost use Rattle.anf_cleanup.specs.Plan.{Planned, Cheaper, Improved, Stripped, gross, Taken, Tried, Chosen};
 
 // The rule that wins: no monomials, the whole OR family, the raw form, or the candidate of rule 2, 3 or 4, with its mask.
 pub enum Choice {
@@ -143,7 +145,8 @@ fn best_cube(form: Form, families: &[u64; 64], supersets: &[u64; 64]) -> Best
     best
 }
 
-// The best after one more mask, if that is a candidate cube: its inner form is cleaned for its cost.
+// The best after one more mask, if that is a candidate cube. Its inner form is cleaned for its cost, unless the cube could not be the best even at the
+// least that a form with these flags can cost.
 fn try_cube(
     form: Form,
     cube: usize,
@@ -159,19 +162,35 @@ fn try_cube(
     }
     let inner = form.stripped(cube, supersets);
     let raw_cost = inner.raw_cost();
+    let gross = gross_saving(cube, inner, raw_cost);
+    if gross - least_cost(inner) <= best.saving {
+        return best;
+    }
     let plan = cleanup(inner, raw_cost, families, supersets);
-    better(best, cube, inner, raw_cost, plan.cost)
+    better(best, cube, gross - plan.cost, plan.cost)
 }
 
-// The cube where it saves strictly more than the best so far. The covered monomials have the inner form's literals and the cube's flags once each.
-fn better(best: Best, cube: usize, inner: Form, raw_cost: usize, cost: usize) -> Best
-    requires { ⌜ Stripped cube (masks inner) «raw_cost» cost ⌝ }
-    ensures { λ r. ⌜ Taken cube (masks inner) cost best r ⌝ }
+// What a cube saves before its inner form is paid for. The covered monomials have the inner form's literals and the cube's flags once each.
+fn gross_saving(cube: usize, inner: Form, raw_cost: usize) -> usize
+    requires { ⌜ Stripped cube (masks inner) «raw_cost» ⌝ }
+    ensures { λ r. ⌜ r ≡ gross cube (masks inner) ⌝ }
 {
     let flags = u64::count_ones(cube as u64) as usize;
-    let saving = raw_cost + 2 * flags * (u64::count_ones(inner.word) as usize - 1)
-        - 2 * inner.constant()
-        - cost;
+    raw_cost + 2 * flags * (inner.size() - 1) - 2 * inner.constant()
+}
+
+// No expression that names all flags of a form costs less than their OR chain.
+fn least_cost(inner: Form) -> usize
+    requires { ⌜ 2 ≤ length (masks inner) ⌝ }
+    ensures { λ r. ⌜ r ≡ cost (raw.orChain (union (masks inner))) ⌝ }
+{
+    chain_cost(inner.flags())
+}
+
+// The cube where it saves strictly more than the best so far.
+fn better(best: Best, cube: usize, saving: usize, cost: usize) -> Best
+    ensures { λ r. ⌜ Taken cube saving cost best r ⌝ }
+{
     if best.saving < saving {
         return Best {
             cube,

@@ -42,6 +42,13 @@ impl Form {
         u64::count_ones(self.word / 2) as usize
     }
 
+    // How many masks there are, the constant's among them.
+    pub fn size(self) -> usize
+        ensures { λ r. ⌜ r ≡ length (masks self) ⌝ }
+    {
+        u64::count_ones(self.word) as usize
+    }
+
     // Whether there is no mask at all, not even the constant's.
     pub fn is_empty(self) -> bool
         ensures { λ r. ⌜ r ≡ lib.Dec.eqb (length (masks self)) 0 ⌝ }

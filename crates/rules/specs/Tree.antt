@@ -5,9 +5,11 @@
 --   depth t         == the longest way from the root to a leaf, in records
 --   write t         == the postfix bytes
 --   FlagsBelow n t  == every flag that the tree names is below n
+--   mentioned t     == the mask of the flags that the tree names
 use mathlib.Core.Bool.{Bool, true, false, not, _&&_, _||_}
 use mathlib.Core.List.{List, [], _∷_, _++_}
-use Prim.Native.Nat.{ℕ, _+_, _-_, _<_, max}
+use Prim.Native.Nat.{ℕ, _+_, _-_, _^_, _<_, max}
+use lib.Bits.{bitOr}
 use Rattle.bits.specs.Bit.{_⊕_, bit, digit}
 use Rattle.rules.specs.Ascii.{ascii}
 
@@ -82,3 +84,12 @@ FlagsBelow n (AN x y) = FlagsBelow n x × FlagsBelow n y
 FlagsBelow n (OR x y) = FlagsBelow n x × FlagsBelow n y
 FlagsBelow n (XO x y) = FlagsBelow n x × FlagsBelow n y
 FlagsBelow n (NO x) = FlagsBelow n x
+
+-- every flag that stands in the tree, as a mask
+unfoldable pub mentioned : Tree → ℕ
+mentioned (CO b) = 0
+mentioned (VA i) = 2 ^ i
+mentioned (AN x y) = bitOr (mentioned x) (mentioned y)
+mentioned (OR x y) = bitOr (mentioned x) (mentioned y)
+mentioned (XO x y) = bitOr (mentioned x) (mentioned y)
+mentioned (NO x) = mentioned x

@@ -25,6 +25,8 @@ use Rattle.anf_cleanup.proofs.absorption.Reads as absorption-reads
 use Rattle.anf_cleanup.proofs.better.Reads as better-reads
 use Rattle.anf_cleanup.proofs.chain_cost.Reads as chain-cost-reads
 use Rattle.anf_cleanup.proofs.cheaper.Reads as cheaper-reads
+use Rattle.anf_cleanup.proofs.gross_saving.Reads as gross-saving-reads
+use Rattle.anf_cleanup.proofs.least_cost.Reads as least-cost-reads
 use Rattle.form.proofs.Form.constant.Reads as constant-reads
 use Rattle.form.proofs.Form.count.Reads as count-reads
 use Rattle.form.proofs.Form.flags.Reads as flags-reads
@@ -157,6 +159,10 @@ try-cube-calls t = (
   stripped-reads.Learnt,
   raw-cost-reads.Asked,
   raw-cost-reads.Learnt,
+  gross-saving-reads.Asked,
+  gross-saving-reads.Learnt,
+  least-cost-reads.Asked,
+  least-cost-reads.Learnt,
   cleanup-below t,
   cleanup.Post,
   better-reads.Asked,

@@ -1,12 +1,13 @@
--- `anf_cleanup::try_cube`, a member of the cycle: a mask that is no candidate leaves the best as it is, and a candidate's inner form is cleaned,
--- with fewer literals (Candidates, Saving). Assumes nothing.
+-- `anf_cleanup::try_cube`, a member of the cycle: a mask that is no candidate leaves the best as it is, and so does one whose saving could not be the
+-- best. Any other candidate's inner form is cleaned, with fewer literals (Candidates, Saving). Assumes nothing.
 use mathlib.Core.Path.{sym, _∙_}
 use Prim.Native.Nat.{ℕ}
 use native.Mathlib.Omega.{arith}
 use borrow.Author.Tests.{not-true, not-false}
 use Rattle.bits.proofs.Word.{ascending-places}
+use Rattle.form.specs.Masks.{masks}
 use Rattle.anf_cleanup.proofs.Candidates.{isCube-fewer}
-use Rattle.anf_cleanup.proofs.Saving.{stripped-cube, tried-skipped}
+use Rattle.anf_cleanup.proofs.Saving.{Candidate, stripped-cube, inner-bounds, cost-stripped, saving-cube, tried-skipped, tried-passed}
 use Rattle.anf_cleanup.proofs.try_cube.Reads as reads
 use Rattle.anf_cleanup.proofs.+best_cube+cleanup+common_cube+partial_or+try_cube.Lts-try_cube as lts
 use Rattle.anf_cleanup.proofs.+best_cube+cleanup+common_cube+partial_or+try_cube.Proof.Claims.{try-cube-at as at, try-cube-calls as calls}
@@ -24,30 +25,62 @@ module _ (t : ℕ) where
   raw-cost-requires : lts.Need-raw-cost-requires (calls t) (at t) reads.Post
   raw-cost-requires c κs = tt
 
-  cleanup-requires : lts.Need-cleanup-requires (calls t) (at t) reads.Post
-  cleanup-requires c κs =
-      let inner = c .before in
-      let tested = inner .before in
+  -- past the test, and with the stripped form
+  candidate : (c : lts.After-stripped (calls t) (at t) reads.Post)
+      → Candidate (masks (c .before .before .before .args .form)) (c .before .before .before .args .cube) (masks (c .stripped .result))
+  candidate c =
+      let tested = c .before in
       let start = tested .before .before in
-      let fewer = isCube-fewer _ _ (sym (tested .before .is-cube .ensures) ∙ not-false _ (tested .if1 .left)) (start .pre .1 .2) _ (inner .stripped .ensures) in
-      (omega (arith, start .pre .0), (c .raw-cost .ensures, start .pre .1 .0, start .pre .1 .1))
+      record {
+        rises = ascending-places 64 (start .args .form .word);
+        nonzero = start .pre .1 .2;
+        test = sym (tested .before .is-cube .ensures) ∙ not-false _ (tested .if1 .left);
+        inner = c .stripped .ensures;
+      }
 
-  better-requires : lts.Need-better-requires (calls t) (at t) reads.Post
-  better-requires c κs =
-      let inner = c .before .before in
-      let tested = inner .before in
-      let start = tested .before .before in
-      stripped-cube _ _ _ _ _ (ascending-places 64 (start .args .form .word)) (start .pre .1 .2)
-      (sym (tested .before .is-cube .ensures) ∙ not-false _ (tested .if1 .left)) (inner .stripped .ensures) (c .before .raw-cost .ensures) (c .cleanup .ensures .costs)
+  gross-saving-requires : lts.Need-gross-saving-requires (calls t) (at t) reads.Post
+  gross-saving-requires c κs = stripped-cube _ _ _ (candidate (c .before)) _ (c .raw-cost .ensures)
+
+  least-cost-requires : lts.Need-least-cost-requires (calls t) (at t) reads.Post
+  least-cost-requires c κs = stripped-cube _ _ _ (candidate (c .before .before)) _ (c .before .raw-cost .ensures) .many
+
+  sub-if2 : lts.Need-sub-if2 (calls t) (at t) reads.Post
+  sub-if2 c =
+      let gross = c .before in
+      let raw = gross .before in
+      omega (arith, c .least-cost .ensures, gross .gross-saving .ensures, raw .raw-cost .ensures, inner-bounds _ _ _ (candidate (raw .before)))
 
   returns-2 : lts.Need-returns-2 (calls t) (at t) reads.Post
   returns-2 c =
-      let inner = c .before .before .before in
-      let tested = inner .before in
-      let start = tested .before .before in
-      c .better .ensures _ (ascending-places 64 (start .args .form .word)) (sym (tested .before .is-cube .ensures) ∙ not-false _ (tested .if1 .left))
-      (inner .stripped .ensures) (c .before .cleanup .ensures .costs)
+      let least = c .before .before in
+      tried-passed _ _ _ _ (candidate (least .before .before .before))
+      (omega (arith, c .if2 .taken, least .least-cost .ensures, least .before .gross-saving .ensures))
+
+  cleanup-requires : lts.Need-cleanup-requires (calls t) (at t) reads.Post
+  cleanup-requires c κs =
+      let raw = c .before .before .before .before in
+      let known = candidate (raw .before) in
+      let start = raw .before .before .before .before in
+      let fewer = isCube-fewer _ _ (known .test) (known .nonzero) _ (known .inner) in
+      (omega (arith, start .pre .0), (raw .raw-cost .ensures, start .pre .1 .0, start .pre .1 .1))
+
+  sub-better : lts.Need-sub-better (calls t) (at t) reads.Post
+  sub-better c =
+      let gross = c .before .before .before .before .before in
+      omega (arith, c .before .cleanup .ensures .costs, gross .gross-saving .ensures, inner-bounds _ _ _ (candidate (gross .before .before)))
+
+  better-requires : lts.Need-better-requires (calls t) (at t) reads.Post
+  better-requires c κs = tt
+
+  returns-3 : lts.Need-returns-3 (calls t) (at t) reads.Post
+  returns-3 c =
+      let cleaned = c .before .before in
+      let gross = cleaned .before .before .before .before in
+      let known = candidate (gross .before .before) in
+      let costs = cleaned .cleanup .ensures .costs in
+      c .better .ensures _ (known .test) (saving-cube _ _ _ known _ _ (gross .gross-saving .ensures) costs) (cost-stripped _ _ _ known _ costs)
 
   pub spec : {M : Type 1} → lts.Closed (calls t) (at t) reads.Post M
   spec =
-      lts.spec (calls t) (at t) reads.Post is-cube-requires returns stripped-requires raw-cost-requires cleanup-requires better-requires returns-2
+      lts.spec (calls t) (at t) reads.Post is-cube-requires returns stripped-requires raw-cost-requires gross-saving-requires least-cost-requires
+      sub-if2 returns-2 cleanup-requires sub-better better-requires returns-3

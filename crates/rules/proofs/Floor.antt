@@ -1,0 +1,73 @@
+-- A floor for the cost of a tree that names k flags: 1 up to one flag, else k + 1, which is what their OR chain costs. No tree costs less, so neither does
+-- the cleaned form of a form in which k flags occur. It rests on the flags that a tree names (Mentioned), on the costs of OR chains (Cost) and on the
+-- sizes of masks (bits, Mask). Assumes nothing.
+--   floor k, floor-orChain           == the floor of k flags; it is the cost of their OR chain
+--   ones-or                          == a union has no more flags than its parts together
+--   cost-floor                       == a tree costs at least the floor of the flags that it names
+--   floor-cleanup, chain-cleanup     == so does the cleaned form: it costs no less than the OR chain of the flags that occur
+use mathlib.Core.List.{List}
+use mathlib.Core.Path.{_≡_, refl, sym, ap, subst}
+use Prim.Native.Nat.{ℕ, zero, suc, _+_, _-_, _≤_}
+use native.Mathlib.Nat.{le-refl, le-trans}
+use native.Mathlib.Omega.{arith}
+use lib.Bits.{bitAnd, bitOr, or-add-and, and-le-r}
+use lib.Count.{ones}
+use Rattle.bits.specs.Range.{Ascending}
+use Rattle.bits.specs.Sum.{union}
+use Rattle.bits.proofs.Mask.{within-or-l, within-and-r, ones-sub, ones-pow}
+use Rattle.rules.specs.Cleanup.{cleanup}
+use Rattle.rules.specs.Form.{orChain}
+use Rattle.rules.specs.Tree.{Tree, CO, VA, AN, OR, XO, NO, cost, discount, mentioned}
+use Rattle.rules.proofs.Cost.{cost-orChain, cost-orChain-few}
+use Rattle.rules.proofs.Mentioned.{mentioned-cleanup}
+
+unfoldable pub floor : ℕ → ℕ
+floor zero = 1
+floor (suc zero) = 1
+floor (suc (suc k)) = suc (suc (suc k))
+
+floor-le : (k : ℕ) → floor k ≤ suc k
+unfolding floor
+floor-le zero = le-refl 1
+floor-le (suc zero) = omega arith
+floor-le (suc (suc k)) = le-refl (suc (suc (suc k)))
+
+pub floor-orChain : (m : ℕ) → floor (ones m) ≡ cost (orChain m)
+unfolding floor
+floor-orChain m = go (ones m) refl
+  where
+    go : (k : ℕ) → ones m ≡ k → floor k ≡ cost (orChain m)
+    go zero e = sym (cost-orChain-few m (omega arith))
+    go (suc zero) e = sym (cost-orChain-few m (omega arith))
+    go (suc (suc k)) e = omega (arith, cost-orChain m (omega arith))
+
+pub ones-or : (a b : ℕ) → ones (bitOr a b) ≤ ones a + ones b
+ones-or a b =
+    let e : bitOr a b - a ≡ b - bitAnd a b = omega (arith, or-add-and a b, and-le-r a b) in
+    omega (arith, ap ones e, ones-sub a (bitOr a b) (within-or-l a b), ones-sub (bitAnd a b) b (within-and-r a b))
+
+-- one flag costs 1 and joining costs 1; an OR has room for the discount that it gives
+named : (t : Tree) → ones (mentioned t) + discount t ≤ cost t
+unfolding mentioned cost ones
+named (CO b) = omega arith
+named (VA i) = omega (arith, ones-pow i)
+named (AN x y) = omega (arith, ones-or (mentioned x) (mentioned y), named x, named y)
+named (OR x y) = omega (arith, ones-or (mentioned x) (mentioned y), named x, named y)
+named (XO x y) = omega (arith, ones-or (mentioned x) (mentioned y), named x, named y)
+named (NO x) = omega (arith, named x)
+
+pub cost-floor : (t : Tree) → floor (ones (mentioned t)) ≤ cost t
+unfolding mentioned cost ones floor
+cost-floor (CO b) = le-refl 1
+cost-floor (VA i) = rw ones-pow (le-refl 1)
+cost-floor (AN x y) = le-trans (floor-le (ones (mentioned (AN x y)))) (omega (arith, ones-or (mentioned x) (mentioned y), named x, named y))
+cost-floor (OR x y) = le-trans (floor-le (ones (mentioned (OR x y)))) (omega (arith, ones-or (mentioned x) (mentioned y), named x, named y))
+cost-floor (XO x y) = le-trans (floor-le (ones (mentioned (XO x y)))) (omega (arith, ones-or (mentioned x) (mentioned y), named x, named y))
+cost-floor (NO x) = le-trans (floor-le (ones (mentioned x))) (omega (arith, named x))
+
+module _ (l : List ℕ) (a : Ascending l) where
+  pub floor-cleanup : floor (ones (union l)) ≤ cost (cleanup l)
+  floor-cleanup = subst (λ (m : ℕ). floor (ones m) ≤ cost (cleanup l)) (mentioned-cleanup l a) (cost-floor (cleanup l))
+
+  pub chain-cleanup : cost (orChain (union l)) ≤ cost (cleanup l)
+  chain-cleanup = subst (λ (n : ℕ). n ≤ cost (cleanup l)) (floor-orChain (union l)) floor-cleanup
