@@ -3,7 +3,7 @@
 --   Copied b out after i         == the first i entries of b stand at the front, and the rest is as it was
 --   copied-none, copied-more     == no entry, and one more
 --   copied-length                == the list keeps its length
-use mathlib.Core.List.{List, [], _∷_, _++_}
+use mathlib.Core.List.{List, [], _∷_}
 use mathlib.Core.Path.{_≡_, refl, sym, ap, _∙_}
 use Prim.Native.Nat.{ℕ, _+_, _<_}
 use native.Mathlib.Numerals.{add-one}

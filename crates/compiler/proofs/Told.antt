@@ -1,10 +1,11 @@
 -- What the compiler tells, and what it leaves in the lent buffer: a refusal leaves the buffer, and an expression stands at its front with its counts.
--- It rests on the rows of the calls (rules, Checked), on the laws of stores (bits, Stores) and on written trees (postfix, Written). Assumes nothing.
+-- It rests on the rows of the calls (rules, Checked), on the laws of stores (bits, Stores) and on the limit of 963 bytes (rules, Fits). Assumes nothing.
 --   Made n table end bytes c w       == up to the cursor `end` stand the bytes of the compiled tree, with its count of records; c and w are its costs
 --   made                             == a plan of the table's form, written at the front of a buffer
 --   Told n table out after r         == both promises of the compiler, for the answer r and the buffer after it
 --   told-flags, told-table           == rows 1 and 2
 --   told-room, told-expression       == past them, row 5 and the expression of the compiled tree
+--   expressed, told-written          == that expression's counts; with room for 963 bytes the promises leave no other answer and no other buffer
 use mathlib.Core.List.{List}
 use mathlib.Core.Path.{_≡_, refl, sym, ap, ap₂, _∙_}
 use Prim.Native.Nat.{ℕ, _^_, _≤_, _<_}
@@ -15,12 +16,13 @@ use Rattle.bits.proofs.Stores.{take-sets-front}
 use Rattle.rules.specs.Calls as paper
 use Rattle.rules.specs.Cleanup.{cleanup}
 use Rattle.rules.specs.Form.{rawCost}
-use Rattle.rules.specs.Limits.{ruleFlags, tooManyFlags, shortTable, shortOutput}
+use Rattle.rules.specs.Limits.{ruleFlags, byteLimit, tooManyFlags, shortTable, shortOutput}
 use Rattle.rules.specs.Outcome.{Outcome, gives, refuses, front, left}
 use Rattle.rules.specs.Tree.{Tree, cost, size, write}
-use Rattle.rules.proofs.Outcome.{front-written}
 use Rattle.rules.proofs.Checked.{table-flags, table-short, table-complete, room-short, room-enough}
-use Rattle.bits.proofs.Tabulated.{map-upto-of}
+use Rattle.rules.proofs.Fits.{length-compiled}
+use Rattle.rules.proofs.Outcome.{gives-same, front-written}
+use Rattle.bits.proofs.Tabulated.{length-map-upto}
 use Rattle.anf_cleanup.specs.Plan.{Planned}
 use Rattle.anf_cleanup.specs.declared.Plan.{Plan}
 use Rattle.postfix.specs.Written.{Writes}
@@ -28,6 +30,7 @@ use Rattle.postfix.specs.declared.Cursor.{Cursor}
 use Rattle.compiler.specs.Answer.{compilationOf, bytesOf}
 use Rattle.compiler.specs.declared.Compilation.{Compilation}
 use Rattle.compiler.specs.declared.Compilation.the-variants.{Written, Refused}
+use Rattle.compiler.specs.declared.Expression.{Expression}
 
 pub record Made (n : ℕ) (table : List ℕ) (end : Cursor) (bytes : List ℕ) (c w : ℕ) : Type 0 where
   pub place : end .place ≡ length (write (paper.compiled n table))
@@ -51,6 +54,11 @@ made n table l f p end buffer bytes w h e room q =
       costs = h .costs ∙ ap cost tree;
       raw = q ∙ ap rawCost f;
     }
+
+abbrev pub expressed : ℕ → List ℕ → Expression
+expressed n table =
+    let t = paper.compiled n table in
+    record { bytes = length (write t); records = size t; cost = cost t; raw = rawCost (paper.tableForm n table) }
 
 abbrev pub Told : ℕ → List ℕ → List ℕ → List ℕ → Compilation → Type 0
 Told n table out after r =
@@ -98,3 +106,21 @@ module _ (n : ℕ) (table out : List ℕ) where
             ≡ gives (paper.compilation tree (paper.tableForm n table)) =
             λ i. gives (record { bytes = stored i; records = m .records i; cost = m .costs i; raw = m .raw i }) in
             (same ∙ sym given, put ∙ ap (placed out) (sym given))
+
+      answered : (after : List ℕ) (r : Compilation) → compilationOf after r ≡ gives (paper.compilation tree (paper.tableForm n table)) → r ≡ Written (expressed n table)
+      unfolding paper.compilation
+      answered after (Written x) e =
+          let same = gives-same e in
+          let bytes = sym (length-map-upto (x .bytes) (λ j. getD after j 0)) ∙ ap (λ (y : paper.Compilation). length (y .bytes)) same in
+          let records = ap (λ (y : paper.Compilation). y .records) same in
+          let costs = ap (λ (y : paper.Compilation). y .cost) same in
+          let raw = ap (λ (y : paper.Compilation). y .raw) same in
+          λ i. Written (record { bytes = bytes i; records = records i; cost = costs i; raw = raw i })
+      answered after (Refused r) e = let z : _≡_ {A = ℕ} 0 1 = cc in absurd (omega arith)
+
+      pub told-written : (after : List ℕ) (r : Compilation) → byteLimit ≤ length out → Told n table out after r
+          → (r ≡ Written (expressed n table)) × (after ≡ sets out 0 (write tree))
+      unfolding paper.compilation
+      told-written after r h t =
+          let given = past ∙ room-enough (length out) (write tree) _ (omega (arith, length-compiled n table few)) in
+          (answered after r (t .0 ∙ given), t .1 ∙ ap (placed out) given)

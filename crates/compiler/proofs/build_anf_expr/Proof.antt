@@ -21,7 +21,7 @@ refused-requires c κs = search needs
 returns : tie.Need-returns
 returns c =
     let a = c .before .before .before .before .args in
-    told-flags (a .flags) (a .table .now) (a .out .now) _ (c .refused .ensures) (c .before .if1 .taken)
+    told-flags (a .flags) (a .table .now) (a .out .now) _ (c .refused .ensures) (omega arith)
 
 setting-count-requires : tie.Need-setting-count-requires
 setting-count-requires c κs = search needs
@@ -108,7 +108,7 @@ slice-aggregate-copy c = search needs
 copy-requires : tie.Need-copy-requires
 copy-requires c κs =
     let e = c .before .before .before .before .before in
-    (omega (arith, e .emit .ensures .place, e .emit .kept .1 .1 .1 .1 .0, fits (word e)), c .before .before .if3 .left)
+    (omega (arith, e .emit .ensures .place, e .emit .kept .1 .1 .1 .1 .0, fits (word e)), omega arith)
 
 same-length : tie.Need-same-length
 same-length c = search needs

@@ -2,7 +2,6 @@
 -- the count. Assumes nothing.
 use Prim.Native.Nat.{_-_, _≤_}
 use native.Mathlib.Omega.{arith}
-use borrow.Author.Needs.{needs}
 use mathlib.Core.Path.{_≡_, ap, _∙_}
 use lib.ListN.{length, take}
 use lib.Seq.{sets}

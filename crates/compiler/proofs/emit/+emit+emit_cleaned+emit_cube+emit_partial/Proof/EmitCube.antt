@@ -23,6 +23,8 @@ use Rattle.compiler.proofs.emit.+emit+emit_cleaned+emit_cube+emit_parti
 use Rattle.compiler.proofs.emit.+emit+emit_cleaned+emit_cube+emit_partial.Proof.Claims.{emit-cube-at as at, emit-cube-calls as calls}
 
 module _ (t : ℕ) where
+  -- the product and the cleaned inner form, joined by AN; that is the whole tree where no mask is left
+
   abbrev product : lts.Start (calls t) (at t) reads.Post → Tree
   product s = raw.cube (s .args .cube)
 
@@ -62,19 +64,6 @@ module _ (t : ℕ) where
   whole u n =
       let i = u .before .before .before .before .before .before .before .before .before in
       cube-whole (masks (start u .args .form)) (start u .args .cube) _ (i .stripped .ensures) _ (u .uncovered .ensures) n
-
-  parts : (f : lts.Else1 (calls t) (at t) reads.Post)
-      → (let u = f .before .before in XO (left u) (remainder u) ≡ built (Cube (start u .args .cube)) (masks (start u .args .form)))
-  parts f =
-      let n = f .before in
-      let u = n .before in
-      let i = u .before .before .before .before .before .before .before .before .before in
-      cube-rest (masks (start u .args .form)) (start u .args .cube) _ (i .stripped .ensures) _ (u .uncovered .ensures)
-      (eqb-false _ 0 (sym (n .is-empty .ensures) ∙ f .if1 .left))
-
-  room-rest : (f : lts.Else1 (calls t) (at t) reads.Post)
-      → (let u = f .before .before in Room (write (XO (left u) (remainder u))) (start u .args .at) (now (start u .args .out)))
-  room-rest f = room-of (sym (parts f)) (start (f .before .before) .pre .1 .2 .room)
 
   put-product-requires : lts.Need-put-product-requires (calls t) (at t) reads.Post
   put-product-requires c κs =
@@ -119,6 +108,21 @@ module _ (t : ℕ) where
       let n = c .before in
       let u = n .before in
       writes-of (whole u (eqb-true _ 0 (sym (n .is-empty .ensures) ∙ c .if1 .taken))) (factored (u .before .before .before))
+
+  -- with the cleaned remainder, joined by XO
+
+  parts : (f : lts.Else1 (calls t) (at t) reads.Post)
+      → (let u = f .before .before in XO (left u) (remainder u) ≡ built (Cube (start u .args .cube)) (masks (start u .args .form)))
+  parts f =
+      let n = f .before in
+      let u = n .before in
+      let i = u .before .before .before .before .before .before .before .before .before in
+      cube-rest (masks (start u .args .form)) (start u .args .cube) _ (i .stripped .ensures) _ (u .uncovered .ensures)
+      (eqb-false _ 0 (sym (n .is-empty .ensures) ∙ f .if1 .left))
+
+  room-rest : (f : lts.Else1 (calls t) (at t) reads.Post)
+      → (let u = f .before .before in Room (write (XO (left u) (remainder u))) (start u .args .at) (now (start u .args .out)))
+  room-rest f = room-of (sym (parts f)) (start (f .before .before) .pre .1 .2 .room)
 
   emit-cleaned-requires-2 : lts.Need-emit-cleaned-requires-2 (calls t) (at t) reads.Post
   emit-cleaned-requires-2 c κs =

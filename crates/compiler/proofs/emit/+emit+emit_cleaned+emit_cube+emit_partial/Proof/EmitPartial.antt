@@ -22,6 +22,8 @@ use Rattle.compiler.proofs.emit.+emit+emit_cleaned+emit_cube+emit_parti
 use Rattle.compiler.proofs.emit.+emit+emit_cleaned+emit_cube+emit_partial.Proof.Claims.{emit-partial-at as at, emit-partial-calls as calls}
 
 module _ (t : ℕ) where
+  -- the chain and the cleaned remainder, joined by XO
+
   abbrev chain : lts.Start (calls t) (at t) reads.Post → Tree
   chain s = raw.orChain (s .args .mask)
 
