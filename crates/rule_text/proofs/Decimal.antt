@@ -3,14 +3,14 @@
 --   length-decimal                            == at most three digits below 1000
 use mathlib.Core.Bool.{Bool, true, false}
 use mathlib.Core.List.{List, [], _∷_, _++_}
-use mathlib.Core.Path.{_≡_, refl, sym, ap, ap₂, _∙_}
+use mathlib.Core.Path.{_≡_, ap, _∙_}
 use Prim.Native.Nat.{ℕ, _+_, _/_, _%_, _≤_, _<_}
 use native.Mathlib.Decide.{decLt}
 use native.Mathlib.Omega.{arith}
 use lib.Dec.{ltb}
 use lib.ListN.{length}
 use borrow.Author.Tests.{lt-ltb, le-ltb}
-use Rattle.bits.specs.Fixed.{below, fixed}
+use Rattle.bits.specs.Fixed.{below}
 use Rattle.bits.proofs.Fixed.{below-less, fixed-step}
 use Rattle.rules.specs.Text.{decimalTurn, decimal}
 

@@ -3,7 +3,9 @@ pub mod Decimal
 pub mod RecordList
 pub mod Left
 pub mod KindText
-pub mod Line
+pub mod Printed
+pub mod Shown
 pub mod Report
 pub mod Compiling
 pub mod Digits
+pub mod Example

@@ -1,6 +1,6 @@
 -- Text written at a place, piece after piece: what is written, and the room that is left for the next. It rests on the laws of stores (bits, Stores).
 -- Assumes nothing.
---   stores-none, stores-more     == a run stored entry by entry: no entry, and one more
+--   stores-more                  == a run stored entry by entry: one entry more
 --   put-none, put-append         == no text; a text and another from where it ends are one
 --   put-length, put-eq           == the buffer keeps its length; the same text under another name
 --   put-front                    == what was written at the front stands there
@@ -8,7 +8,7 @@
 --   room-eq                      == the same room under another name of the text
 use mathlib.Core.List.{List, [], _∷_, _++_}
 use mathlib.Core.Path.{_≡_, refl, sym, ap, ap₂, subst, _∙_}
-use Prim.Native.Nat.{ℕ, suc, _+_, _≤_, _<_}
+use Prim.Native.Nat.{ℕ, _+_, _≤_, _<_}
 use native.Mathlib.Nat.{add-zero}
 use native.Mathlib.Numerals.{add-one}
 use native.Mathlib.Omega.{arith}
@@ -18,9 +18,6 @@ use Rattle.bits.proofs.Stores.{sets-append, take-sets-front}
 use Rattle.rule_text.specs.Put.{Room, Put}
 
 module _ {A : Type 0} (out l : List A) (at : ℕ) where
-  pub stores-none : out ≡ sets out at (take 0 l)
-  stores-none = refl
-
   pub stores-more : (i : ℕ) (d : A) → i < length l → set (sets out at (take i l)) (at + i) (getD l i d) ≡ sets out at (take (i + 1) l)
   stores-more i d h =
       let short : length (take i l) ≡ i = length-take-le i l (omega arith) in

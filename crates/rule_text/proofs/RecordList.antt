@@ -8,7 +8,7 @@
 --   length-records               == the text has a byte for each byte of the tree and one for each record but the first
 use mathlib.Core.List.{List, [], _∷_, _++_, append-assoc, append-nil}
 use mathlib.Core.Path.{_≡_, refl, sym, ap, ap₂, _∙_}
-use Prim.Native.Nat.{ℕ, suc, _+_}
+use Prim.Native.Nat.{ℕ, _+_}
 use native.Mathlib.Omega.{arith}
 use lib.ListN.{length, length-append}
 use lib.Seq.{append-snoc}
@@ -81,13 +81,18 @@ records-kinds (NO x) = ap (λ (a : List ℕ). a ++ spaced Not) (records-kinds x)
 
 -- ---- flags
 
+flags-two : (n : ℕ) (x y : Tree) (k : Kind) → FlagBelow n k → Every (FlagBelow n) (kinds x) → Every (FlagBelow n) (kinds y)
+    → Every (FlagBelow n) (kinds x ++ kinds y ++ k ∷ [])
+flags-two n x y k h f g =
+    every-append (FlagBelow n) (kinds x ++ kinds y) (k ∷ []) (every-append (FlagBelow n) (kinds x) (kinds y) f g) (h, tt)
+
 pub flags-kinds : (n : ℕ) (t : Tree) → FlagsBelow n t → Every (FlagBelow n) (kinds t)
 unfolding kinds
 flags-kinds n (CO b) h = (tt, tt)
 flags-kinds n (VA i) h = (h, tt)
-flags-kinds n (AN x y) h = every-append (FlagBelow n) (kinds x ++ kinds y) (And ∷ []) (every-append (FlagBelow n) (kinds x) (kinds y) (flags-kinds n x (h .0)) (flags-kinds n y (h .1))) (tt, tt)
-flags-kinds n (OR x y) h = every-append (FlagBelow n) (kinds x ++ kinds y) (Or ∷ []) (every-append (FlagBelow n) (kinds x) (kinds y) (flags-kinds n x (h .0)) (flags-kinds n y (h .1))) (tt, tt)
-flags-kinds n (XO x y) h = every-append (FlagBelow n) (kinds x ++ kinds y) (Xor ∷ []) (every-append (FlagBelow n) (kinds x) (kinds y) (flags-kinds n x (h .0)) (flags-kinds n y (h .1))) (tt, tt)
+flags-kinds n (AN x y) h = flags-two n x y And tt (flags-kinds n x (h .0)) (flags-kinds n y (h .1))
+flags-kinds n (OR x y) h = flags-two n x y Or tt (flags-kinds n x (h .0)) (flags-kinds n y (h .1))
+flags-kinds n (XO x y) h = flags-two n x y Xor tt (flags-kinds n x (h .0)) (flags-kinds n y (h .1))
 flags-kinds n (NO x) h = every-append (FlagBelow n) (kinds x) (Not ∷ []) (flags-kinds n x h) (tt, tt)
 
 -- ---- length

@@ -1,15 +1,14 @@
 -- The three lines of a rule: they are document 01's report, and they fit a page. It rests on the lengths of numbers (Decimal) and of records (RecordList), and on
 -- the limits of what the compiler writes (rules, Fits). Assumes nothing.
 --   report-lines     == the report of a table is the lines of what the compiler writes for it
---   length-lines     == where the records have at most 1347 bytes and the costs are below 1000, the lines have at most 1400
+--   length-lines     == the lines have at most 1400 bytes
+--   made-compiled    == what the compiler writes is read back as its tree
 --   printable        == what the compiler writes for a table of up to six flags can be printed
 --   compile-gives    == the compiler does not refuse a complete table of up to six flags and 963 bytes of room
-use mathlib.Core.List.{List, [], _∷_, _++_, append-assoc}
-use mathlib.Core.Path.{_≡_, refl, sym, ap, subst, _∙_}
-use mathlib.Core.Bool.{Bool, true, false, not}
-use Prim.Native.Nat.{ℕ, _+_, _^_, _≤_, _<_}
+use mathlib.Core.List.{List, append-assoc}
+use mathlib.Core.Path.{_≡_, ap}
+use Prim.Native.Nat.{ℕ, _^_, _≤_, _<_}
 use native.Mathlib.Omega.{arith}
-use lib.Dec.{leb, ltb}
 use lib.ListN.{length, length-append}
 use borrow.Author.Tests.{le-ltb, le-leb}
 use Rattle.rules.specs.Ascii.{ascii}
@@ -18,15 +17,15 @@ use Rattle.rules.specs.Form.{rawCost}
 use Rattle.rules.specs.Limits.{ruleFlags}
 use Rattle.rules.specs.Machine.{made, WellFormed}
 use Rattle.rules.specs.Outcome.{gives}
-use Rattle.rules.specs.Text.{decimal, records, report}
-use Rattle.rules.specs.Tree.{cost, size, write}
+use Rattle.rules.specs.Text.{records, report}
+use Rattle.rules.specs.Tree.{cost, write}
 use Rattle.rules.proofs.Fits.{cost-compiled, flags-compiled, raw-compiled, records-compiled, length-compiled}
 use Rattle.rules.proofs.ReadBack.{made-write}
-use Rattle.rule_text.specs.Parts.{shown, firstLine, lastLine, lines, Printable}
+use Rattle.rule_text.specs.Parts.{shown, firstLine, lastLine, lines, textLimit, Printable}
 use Rattle.rule_text.proofs.Decimal.{length-decimal}
 use Rattle.rule_text.proofs.RecordList.{length-records}
 
-pub length-lines : (n : ℕ) (l : List ℕ) (c r : ℕ) → n < 1000 → length l ≤ 1347 → c < 1000 → r < 1000 → length (lines n l c r) ≤ 1400
+pub length-lines : (n : ℕ) (l : List ℕ) (c r : ℕ) → n < 1000 → length l ≤ textLimit → c < 1000 → r < 1000 → length (lines n l c r) ≤ 1400
 unfolding lines firstLine lastLine ascii
 length-lines n l c r a b e f = simp length-append (omega (arith, length-decimal n a, length-decimal c e, length-decimal r f))
 
@@ -36,7 +35,6 @@ module _ (n : ℕ) (table : List ℕ) where
   report-lines = simp append-assoc
 
   module _ (h : n ≤ ruleFlags) where
-    -- the compiler's bytes are read back as its tree
     pub made-compiled : made n (write (compiled n table)) ≡ gives (compiled n table)
     made-compiled = made-write n (compiled n table) (flags-compiled n table) (records-compiled n table h)
 

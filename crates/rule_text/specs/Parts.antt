@@ -1,10 +1,11 @@
--- The parts of the printed text, as the functions that write them have them.
+-- The parts of the printed text, as the functions that write them have them, and of the line that is read.
 --   gap p                == what stands between the record that begins at byte p and the one before: nothing before the first
 --   kindText k           == a record's text, its mark and its payload as a digit
 --   shown o              == the records of an expression's tree
 --   firstLine n          == line one
 --   lastLine cost raw    == line three, after the newline that ends line two
 --   lines n l cost raw   == the three lines, where l is the text of the records
+--   textLimit            == what line two has at most, in bytes
 --   Printable n s c r    == the bytes s are an expression of n flags, and it and the two costs are short enough for a page
 --   Shows l page         == the page's text is l
 --   isDigit b            == the byte is a digit 0 or 1
@@ -13,20 +14,20 @@ use mathlib.Core.Bool.{Bool, _||_}
 use mathlib.Core.List.{List, [], _∷_, _++_}
 use mathlib.Core.Option.{Option, none, some}
 use mathlib.Core.Path.{_≡_}
-use Prim.Native.Nat.{ℕ, zero, suc, _+_, _≤_, _<_}
+use Prim.Native.Nat.{ℕ, zero, suc, _+_, _-_, _≤_, _<_}
 use lib.Dec.{eqb}
 use lib.ListN.{length, take}
 use Rattle.bits.specs.Bit.{digit}
 use Rattle.rules.specs.Ascii.{ascii}
-use Rattle.rules.specs.Limits.{ruleFlags}
+use Rattle.rules.specs.Limits.{ruleFlags, recordLimit, byteLimit}
 use Rattle.rules.specs.Machine.{made, WellFormed}
 use Rattle.rules.specs.Outcome.{Outcome, gives, refuses}
 use Rattle.rules.specs.Record.{Kind, Constant, Flag, And, Or, Xor, Not}
 use Rattle.rules.specs.Text.{decimal, records}
 use Rattle.rules.specs.Tree.{Tree}
 use Rattle.rule_text.specs.declared.Page.{Page}
-use Rattle.rule_text.specs.declared.Size.{Size}
-use Rattle.rule_text.specs.declared.Size.the-variants.{Flags, Other}
+use Rattle.rule_text.specs.declared.line.Size.{Size}
+use Rattle.rule_text.specs.declared.line.Size.the-variants.{Flags, Other}
 
 -- "one space between records"
 unfoldable pub gap : ℕ → List ℕ
@@ -57,10 +58,14 @@ lastLine cost raw = ascii "\ncost " ++ decimal cost ++ (ascii " raw " ++ decimal
 unfoldable pub lines : ℕ → List ℕ → ℕ → ℕ → List ℕ
 lines n l cost raw = firstLine n ++ l ++ lastLine cost raw
 
+-- "963 bytes always suffice", and "one space between records", of which there are at most 385
+abbrev pub textLimit : ℕ
+textLimit = byteLimit + (recordLimit - 1)
+
 pub record Printable (n : ℕ) (s : List ℕ) (cost raw : ℕ) : Type 0 where
   pub flags : n ≤ ruleFlags
   pub expression : WellFormed n s
-  pub records : length (shown (made n s)) ≤ 1347
+  pub records : length (shown (made n s)) ≤ textLimit
   pub costs : (cost < 1000) × (raw < 1000)
 
 pub record Shows (l : List ℕ) (page : Page) : Type 0 where

@@ -1,91 +1,26 @@
 // The printed text of a rule: the output of the printing program for its whole input. A line of digits is a rule table, whose expression the
 // compiler writes; it is printed as three lines. It rests on `compiler` and on the reader of `expr`.
+mod line;
 mod text;
 
+use crate::line::Size;
 use compiler::Compilation;
 ghost use mathlib.Core.Bool.{true};
 ghost use mathlib.Core.List.{map};
 ghost use mathlib.Core.Path.{_≡_};
 ghost use Prim.Native.Nat.{_-_, _^_, _≤_};
 ghost use lib.ListN.{length, take};
-ghost use lib.Seq.{sets};
 ghost use Rattle.bits.specs.Range.{all};
 ghost use Rattle.rules.specs.Ascii.{ascii};
 ghost use Rattle.rules.specs.Limits.{ruleFlags};
 ghost use Rattle.rules.specs.Machine.{made};
-ghost use Rattle.rules.specs.Text.{flagsOf, isLine, report, printed};
-ghost use Rattle.rule_text.specs.Parts.{shown, lines, Printable, Shows, isDigit, sizeOf};
+ghost use Rattle.rules.specs.Text.{report, printed};
+ghost use Rattle.rule_text.specs.Parts.{shown, lines, Printable, Shows, isDigit};
 
 // The output: the first `count` bytes.
 pub struct Page {
     pub bytes: [u8; 1400],
     pub count: usize,
-}
-
-// The flag count of a line, where the number of its digits has one.
-pub enum Size {
-    Flags(usize),
-    Other,
-}
-
-// The flag count of so many digits.
-fn flag_count(digits: usize) -> Size
-    ensures { λ r. ⌜ sizeOf r ≡ flagsOf digits ⌝ }
-{
-    match digits {
-        1 => Size::Flags(0),
-        2 => Size::Flags(1),
-        4 => Size::Flags(2),
-        8 => Size::Flags(3),
-        16 => Size::Flags(4),
-        32 => Size::Flags(5),
-        64 => Size::Flags(6),
-        _ => Size::Other,
-    }
-}
-
-// Whether the byte is a digit 0 or 1.
-fn is_digit(byte: u8) -> bool
-    ensures { λ r. ⌜ r ≡ isDigit byte ⌝ }
-{
-    byte == b'0' || byte == b'1'
-}
-
-// Whether all bytes are digits.
-fn all_digits(bytes: &[u8]) -> bool
-    ensures { λ r. ⌜ r ≡ all isDigit (now (bytes .entry)) ⌝ }
-{
-    for i in 0..bytes.len() {
-        if !is_digit(bytes[i]) {
-            return false;
-        }
-    }
-    true
-}
-
-// Whether the input is digits and then a newline.
-fn is_line(input: &[u8]) -> bool
-    ensures { λ r. ⌜ r ≡ isLine (now (input .entry)) ⌝ }
-{
-    let length = input.len();
-    if length == 0 {
-        return false;
-    }
-    let count = length - 1;
-    if input[count] != b'\n' {
-        return false;
-    }
-    all_digits(&input[..count])
-}
-
-// Digit i as entry i.
-fn entries(digits: &[u8], table: &mut [u64])
-    requires { ⌜ (length (now digits) ≤ length (now table)) × (all isDigit (now digits) ≡ true) ⌝ }
-    ensures { λ _. ⌜ now (table .exit) ≡ sets (now (table .entry)) 0 (map (λ b. b - 48) (now (digits .entry))) ⌝ }
-{
-    for i in 0..digits.len() {
-        table[i] = (digits[i] - b'0') as u64;
-    }
 }
 
 // The page for input that is no line of a rule.
@@ -107,14 +42,14 @@ fn rule_page(flags: usize, expression: &[u8], cost: usize, raw: usize) -> Page
     Page { bytes, count }
 }
 
-// The page of the rule whose table is these digits.
+// The page of the rule whose table is these digits. The compiler refuses no complete table of up to six flags.
 fn table_page(flags: usize, digits: &[u8]) -> Page
     requires { ⌜ (flags ≤ ruleFlags) × (length (now digits) ≡ 2 ^ flags) × (all isDigit (now digits) ≡ true) ⌝ }
     ensures { λ r. ⌜ Shows (report flags (map (λ b. b - 48) (now (digits .entry)))) r ⌝ }
 {
     let count = digits.len();
     let mut table = [0u64; 64];
-    entries(digits, &mut table);
+    line::entries(digits, &mut table);
     let mut expression = [0u8; 963];
     let answer = compiler::build_anf_expr(flags, &table[..count], &mut expression);
     let Compilation::Written(rule) = answer else {
@@ -129,11 +64,11 @@ pub fn print_rule(input: &[u8]) -> Page
     ensures { λ r. ⌜ (r .count ≤ 1400) × (take (r .count) (r .bytes) ≡ printed (now (input .entry))) ⌝ }
     ensures { λ r. ⌜ length (r .bytes) ≡ 1400 ⌝ }
 {
-    if !is_line(input) {
+    if !line::is_line(input) {
         return bad_line();
     }
     let count = input.len() - 1;
-    let size = flag_count(count);
+    let size = line::flag_count(count);
     let Size::Flags(flags) = size else {
         return bad_line();
     };

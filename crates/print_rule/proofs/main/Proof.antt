@@ -1,50 +1,37 @@
+-- `print_rule::main` is safe and ends: the page's count is within its 1400 bytes. Assumes nothing.
 use mathlib.Core.Path.{sym}
 use native.Mathlib.Omega.{arith}
 use lib.Seq.{length-take-le}
 use borrow.Author.Needs.{needs}
 use Rattle.print_rule.proofs.main.Statement.{statement}
 use Rattle.print_rule.proofs.main.Tie as tie
-use Rattle.print_rule.proofs.main.Reads as reads
-use Rattle.print_rule.proofs.main.Lts as lts
-use Rattle.io.proofs.read_full.Reads as read-full-reads
-use Rattle.io.proofs.write_all.Reads as write-all-reads
-use Rattle.rule_text.proofs.print_rule.Reads as print-rule-reads
 
--- src/main.rt:8:46
 slice-aggregate-read-full : tie.Need-slice-aggregate-read-full
 slice-aggregate-read-full c = search needs
 
--- src/main.rt:8:9
 read-full-requires : tie.Need-read-full-requires
 read-full-requires c κs = search needs
 
--- src/main.rt:9:38
 array-share-prefix-input : tie.Need-array-share-prefix-input
 array-share-prefix-input c = search needs
 
--- src/main.rt:9:38
 slice-aggregate-print-rule : tie.Need-slice-aggregate-print-rule
 slice-aggregate-print-rule c = search needs
 
--- src/main.rt:9:9
 print-rule-requires : tie.Need-print-rule-requires
 print-rule-requires c κs = search needs
 
--- src/main.rt:12:34
 array-share-prefix-bytes : tie.Need-array-share-prefix-bytes
 array-share-prefix-bytes c = let p = c .before .print-rule .ensures in omega (arith, p .0 .0, p .1)
 
--- src/main.rt:12:34
 slice-aggregate-write-all : tie.Need-slice-aggregate-write-all
 slice-aggregate-write-all c =
     let p = c .before .before .print-rule .ensures in
     sym (length-take-le _ _ (omega (arith, p .0 .0, p .1)))
 
--- src/main.rt:12:5
 write-all-requires : tie.Need-write-all-requires
 write-all-requires c κs = search needs
 
--- src/main.rt:6:1
 returns : tie.Need-returns
 returns c = search needs
 

@@ -1,30 +1,24 @@
+-- `rule_text::table_page` meets its contract: the table's entries are the digits' values, the compiler does not refuse them, and the lines of what it wrote are
+-- the report. Assumes nothing.
 use mathlib.Core.List.{List}
-use mathlib.Core.Path.{_≡_, sym, ap, _∙_}
-use Prim.Native.Nat.{ℕ, _^_, _≤_}
+use mathlib.Core.Path.{sym, ap, _∙_}
+use Prim.Native.Nat.{ℕ, _≤_}
 use native.Mathlib.Omega.{arith}
 use lib.ListN.{length, replicate}
 use lib.Seq.{length-take-le}
-use Rattle.rules.specs.Calls.{compile}
-use Rattle.compiler.specs.Answer.{compilationOf}
-use Rattle.compiler.specs.declared.Expression.{Expression}
-use Rattle.rule_text.proofs.Compiling.{never-refused, count-told, printable-told, report-told}
-use Rattle.rule_text.proofs.Digits.{values, length-values, entries-front}
-use Rattle.rule_text.proofs.Line.{flags-most}
 use borrow.Author.Needs.{needs}
+use Rattle.rules.specs.Calls.{compile}
+use Rattle.compiler.specs.declared.Expression.{Expression}
+use Rattle.rule_text.proofs.Compiling.{Answered, never-refused, count-told, printable-told, report-told}
+use Rattle.rule_text.proofs.Digits.{values, length-values, entries-front}
+use Rattle.rule_text.proofs.Printed.{flags-most}
+use Rattle.rule_text.proofs.Shown.{shows-eq}
 use Rattle.rule_text.proofs.table_page.Statement.{statement}
 use Rattle.rule_text.proofs.table_page.Tie as tie
-use Rattle.rule_text.proofs.table_page.Reads as reads
-use Rattle.rule_text.proofs.table_page.Lts as lts
-use Rattle.compiler.proofs.build_anf_expr.Reads as build-anf-expr-reads
-use Rattle.rule_text.proofs.bad_line.Reads as bad-line-reads
-use Rattle.rule_text.proofs.entries.Reads as entries-reads
-use Rattle.rule_text.proofs.rule_page.Reads as rule-page-reads
 
--- src/lib.rt:124:21
 slice-aggregate-entries : tie.Need-slice-aggregate-entries
 slice-aggregate-entries c = search needs
 
--- src/lib.rt:124:5
 -- the digits are at most 64
 few : (s : tie.Start) → length (s .args .digits .now) ≤ 64
 few s = omega (arith, flags-most (s .args .flags) (s .pre .0), s .pre .1)
@@ -32,21 +26,17 @@ few s = omega (arith, flags-most (s .args .flags) (s .pre .0), s .pre .1)
 entries-requires : tie.Need-entries-requires
 entries-requires c κs = let s = c .before .before in (few s, s .pre .2)
 
--- src/lib.rt:126:50
 array-share-prefix-table : tie.Need-array-share-prefix-table
 array-share-prefix-table c = let t = c .before in omega (arith, few (t .before .before .before), t .entries .kept .1 .0)
 
--- src/lib.rt:126:50
 slice-aggregate-build-anf-expr : tie.Need-slice-aggregate-build-anf-expr
 slice-aggregate-build-anf-expr c =
     let t = c .before .before in
     sym (length-take-le _ (t .entries .last .1 .0) (omega (arith, few (t .before .before .before), t .entries .kept .1 .0)))
 
--- src/lib.rt:126:67
 slice-aggregate-build-anf-expr-2 : tie.Need-slice-aggregate-build-anf-expr-2
 slice-aggregate-build-anf-expr-2 c = search needs
 
--- src/lib.rt:126:9
 build-anf-expr-requires : tie.Need-build-anf-expr-requires
 build-anf-expr-requires c κs = search needs
 
@@ -64,16 +54,16 @@ module _ (b : tie.After-build-anf-expr) where
   abbrev after : List ℕ
   after = b .build-anf-expr .last .1 .1 .0
 
-  answer : compilationOf after (b .build-anf-expr .result) ≡ compile flags (values digits) 963
-  answer =
-      b .build-anf-expr .ensures .0
-      ∙ ap (λ (t : List ℕ). compile flags t 963) (entries-front digits (replicate 64 0) _ (few start) (b .before .before .before .before .entries .ensures))
-
-  enough : 2 ^ flags ≤ length (values digits)
-  enough = omega (arith, length-values digits, start .pre .1)
-
-  full : length after ≡ 963
-  full = b .build-anf-expr .kept .1 .1 .0
+  answered : Answered flags (values digits) after (b .build-anf-expr .result)
+  answered = record {
+    flags = start .pre .0;
+    complete = omega (arith, length-values digits, start .pre .1);
+    room = b .build-anf-expr .kept .1 .1 .0;
+    told =
+        b .build-anf-expr .ensures .0
+        ∙ ap (λ (t : List ℕ). compile flags t 963)
+        (entries-front digits (replicate 64 0) _ (few start) (b .before .before .before .before .entries .ensures));
+  }
 
 -- what it wrote
 module _ (c : tie.After-answer) where
@@ -84,53 +74,37 @@ module _ (c : tie.After-answer) where
   rule = c .answer .given .0 .0
 
   within : rule .bytes ≤ length (after built)
-  within =
-      let b = built in
-      omega (arith, count-told (flags b) (values (digits b)) (after b) (start b .pre .0) (enough b) _ (answer b) rule (c .answer .given .1), full b)
+  within = count-told (answered built) rule (c .answer .given .1)
 
--- src/lib.rt:127:30
 enum-known-answer : tie.Need-enum-known-answer
 enum-known-answer c = search needs
 
--- src/lib.rt:128:9
 enum-told : tie.Need-enum-told
 enum-told c = search needs
 
--- src/lib.rt:128:9
 bad-line-requires : tie.Need-bad-line-requires
 bad-line-requires c κs = search needs
 
--- src/lib.rt:128:9
 returns : tie.Need-returns
-returns c =
-    let b = c .before .before .before .before in
-    absurd (never-refused (flags b) (values (digits b)) (after b) (start b .pre .0) (enough b) _ (answer b) _ (c .before .enum-told .given .1))
+returns c = absurd (never-refused (answered (c .before .before .before .before)) _ (c .before .enum-told .given .1))
 
--- src/lib.rt:131:22
 array-share-prefix-expression : tie.Need-array-share-prefix-expression
 array-share-prefix-expression c = within (c .before)
 
--- src/lib.rt:131:22
 slice-aggregate-rule-page : tie.Need-slice-aggregate-rule-page
 slice-aggregate-rule-page c =
     let a = c .before .before in
     sym (length-take-le (rule a .bytes) (after (built a)) (within a))
 
--- src/lib.rt:131:5
 rule-page-requires : tie.Need-rule-page-requires
 rule-page-requires c κs =
     let a = c .before .before in
-    let b = built a in
-    printable-told (flags b) (values (digits b)) (after b) (start b .pre .0) (enough b) _ (answer b) (rule a) (a .answer .given .1) (full b)
+    printable-told (answered (built a)) (rule a) (a .answer .given .1)
 
--- src/lib.rt:118:1
 returns-2 : tie.Need-returns-2
 returns-2 c =
     let a = c .before .before .before in
-    let b = built a in
-    let p = c .rule-page .ensures in
-    let same = report-told (flags b) (values (digits b)) (after b) (start b .pre .0) (enough b) _ (answer b) (rule a) (a .answer .given .1) (full b) in
-    record { within = p .within; size = p .size; text = p .text ∙ same }
+    shows-eq (report-told (answered (built a)) (rule a) (a .answer .given .1)) (c .rule-page .ensures)
 
 pub table-page-spec : {M : Type 1} → statement M
 table-page-spec =

@@ -1,23 +1,18 @@
+-- `rule_text::text::put_costs` meets its contract: the two texts with their numbers, and the newline. Assumes nothing.
 use mathlib.Core.List.{List, _++_}
 use Prim.Native.Nat.{ℕ}
+use borrow.Author.Needs.{needs}
 use Rattle.rules.specs.Ascii.{ascii}
 use Rattle.rules.specs.Text.{decimal}
 use Rattle.rule_text.specs.Parts.{lastLine}
 use Rattle.rule_text.specs.Put.{Room}
 use Rattle.rule_text.proofs.Put.{put-append, room-first, room-next}
-use borrow.Author.Needs.{needs}
 use Rattle.rule_text.proofs.text.put_costs.Statement.{statement}
 use Rattle.rule_text.proofs.text.put_costs.Tie as tie
-use Rattle.rule_text.proofs.text.put_costs.Reads as reads
-use Rattle.rule_text.proofs.text.put_costs.Lts as lts
-use Rattle.rule_text.proofs.text.put_number.Reads as put-number-reads
-use Rattle.rule_text.proofs.text.put_text.Reads as put-text-reads
 
--- src/text.rt:111:28
 slice-aggregate-put-number : tie.Need-slice-aggregate-put-number
 slice-aggregate-put-number c = search needs
 
--- src/text.rt:111:9
 -- the two texts with their numbers, before the newline
 module _ (s : tie.Start) where
   abbrev first : List ℕ
@@ -37,11 +32,9 @@ put-number-requires : tie.Need-put-number-requires
 unfolding ascii
 put-number-requires c κs = let s = c .before .before .before in (s .pre .0, room-first {l = first s} (second s) (both s))
 
--- src/text.rt:112:29
 slice-aggregate-put-number-2 : tie.Need-slice-aggregate-put-number-2
 slice-aggregate-put-number-2 c = search needs
 
--- src/text.rt:112:9
 put-number-requires-2 : tie.Need-put-number-requires-2
 unfolding ascii
 put-number-requires-2 c κs =
@@ -49,11 +42,9 @@ put-number-requires-2 c κs =
     let s = p .before .before .before .before in
     (s .pre .1, room-next {l = first s} (second s) (both s) (p .put-number .ensures))
 
--- src/text.rt:113:14
 slice-aggregate-put-text : tie.Need-slice-aggregate-put-text
 slice-aggregate-put-text c = search needs
 
--- src/text.rt:113:5
 put-text-requires : tie.Need-put-text-requires
 unfolding ascii
 put-text-requires c κs =
@@ -62,11 +53,9 @@ put-text-requires c κs =
     let s = p .before .before .before .before in
     room-next {l = first s ++ second s} (ascii "\n") (whole s) (put-append {l = first s} {m = second s} (p .put-number .ensures) (q .put-number2 .ensures))
 
--- src/text.rt:107:1
 same-length : tie.Need-same-length
 same-length c = search needs
 
--- src/text.rt:107:1
 returns : tie.Need-returns
 unfolding lastLine ascii
 returns c =

@@ -1,23 +1,18 @@
+-- `rule_text::text::put_flags` meets its contract: the text with the number, and the newline. Assumes nothing.
 use mathlib.Core.List.{List, _++_}
 use Prim.Native.Nat.{ℕ}
+use borrow.Author.Needs.{needs}
 use Rattle.rules.specs.Ascii.{ascii}
 use Rattle.rules.specs.Text.{decimal}
 use Rattle.rule_text.specs.Parts.{firstLine}
 use Rattle.rule_text.specs.Put.{Room}
 use Rattle.rule_text.proofs.Put.{put-append, room-first, room-next}
-use borrow.Author.Needs.{needs}
 use Rattle.rule_text.proofs.text.put_flags.Statement.{statement}
 use Rattle.rule_text.proofs.text.put_flags.Tie as tie
-use Rattle.rule_text.proofs.text.put_flags.Reads as reads
-use Rattle.rule_text.proofs.text.put_flags.Lts as lts
-use Rattle.rule_text.proofs.text.put_number.Reads as put-number-reads
-use Rattle.rule_text.proofs.text.put_text.Reads as put-text-reads
 
--- src/text.rt:102:26
 slice-aggregate-put-number : tie.Need-slice-aggregate-put-number
 slice-aggregate-put-number c = search needs
 
--- src/text.rt:102:9
 -- the text and the number, before the newline
 module _ (s : tie.Start) where
   abbrev label : List ℕ
@@ -31,11 +26,9 @@ put-number-requires : tie.Need-put-number-requires
 unfolding ascii
 put-number-requires c κs = let s = c .before .before .before in (s .pre .0, room-first {l = label s} (ascii "\n") (room s))
 
--- src/text.rt:103:14
 slice-aggregate-put-text : tie.Need-slice-aggregate-put-text
 slice-aggregate-put-text c = search needs
 
--- src/text.rt:103:5
 put-text-requires : tie.Need-put-text-requires
 unfolding ascii
 put-text-requires c κs =
@@ -43,11 +36,9 @@ put-text-requires c κs =
     let s = p .before .before .before .before in
     room-next {l = label s} (ascii "\n") (room s) (p .put-number .ensures)
 
--- src/text.rt:98:1
 same-length : tie.Need-same-length
 same-length c = search needs
 
--- src/text.rt:98:1
 returns : tie.Need-returns
 unfolding firstLine ascii
 returns c =

@@ -1,21 +1,16 @@
+-- `rule_text::text::put_lines` meets its contract: line one, the records, and line three from where they end. Assumes nothing.
 use mathlib.Core.List.{List, _++_}
 use Prim.Native.Nat.{ℕ}
 use native.Mathlib.Omega.{arith}
+use borrow.Author.Needs.{needs}
 use Rattle.rules.specs.Machine.{made}
 use Rattle.rule_text.specs.Parts.{shown, firstLine, lastLine, lines}
 use Rattle.rule_text.specs.Put.{Room}
 use Rattle.rule_text.proofs.Put.{put-append, room-first, room-next}
 use Rattle.rule_text.proofs.Report.{length-lines}
-use borrow.Author.Needs.{needs}
 use Rattle.rule_text.proofs.text.put_lines.Statement.{statement}
 use Rattle.rule_text.proofs.text.put_lines.Tie as tie
-use Rattle.rule_text.proofs.text.put_lines.Reads as reads
-use Rattle.rule_text.proofs.text.put_lines.Lts as lts
-use Rattle.rule_text.proofs.text.put_costs.Reads as put-costs-reads
-use Rattle.rule_text.proofs.text.put_flags.Reads as put-flags-reads
-use Rattle.rule_text.proofs.text.put_records.Reads as put-records-reads
 
--- src/text.rt:121:9
 -- the text of the records, and room for the lines
 module _ (s : tie.Start) where
   abbrev text : List ℕ
@@ -33,14 +28,12 @@ module _ (s : tie.Start) where
 put-flags-requires : tie.Need-put-flags-requires
 put-flags-requires c κs = let s = c .before .before .before in (omega arith, room-first (text s) (both s))
 
--- src/text.rt:122:9
 put-records-requires : tie.Need-put-records-requires
 put-records-requires c κs =
     let p = c .before .before .before in
     let s = p .before .before .before .before in
     (s .pre .0 .flags, s .pre .0 .expression, room-next (text s) (both s) (p .put-flags .ensures))
 
--- src/text.rt:123:5
 put-costs-requires : tie.Need-put-costs-requires
 put-costs-requires c κs =
     let q = c .before .before .before in
@@ -51,11 +44,9 @@ put-costs-requires c κs =
       room-next (lastLine (s .args .cost) (s .args .raw)) (whole s) (put-append (p .put-flags .ensures) (q .put-records .ensures)),
     )
 
--- src/text.rt:117:1
 same-length : tie.Need-same-length
 same-length c = search needs
 
--- src/text.rt:117:1
 returns : tie.Need-returns
 unfolding lines
 returns c =

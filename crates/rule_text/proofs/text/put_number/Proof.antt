@@ -1,29 +1,22 @@
+-- `rule_text::text::put_number` meets its contract: the text and the digits from where it ends are one text. Assumes nothing.
+use borrow.Author.Needs.{needs}
 use Rattle.rules.specs.Text.{decimal}
 use Rattle.rule_text.proofs.Put.{put-append, room-first, room-next}
-use borrow.Author.Needs.{needs}
 use Rattle.rule_text.proofs.text.put_number.Statement.{statement}
 use Rattle.rule_text.proofs.text.put_number.Tie as tie
-use Rattle.rule_text.proofs.text.put_number.Reads as reads
-use Rattle.rule_text.proofs.text.put_number.Lts as lts
-use Rattle.rule_text.proofs.text.put_decimal.Reads as put-decimal-reads
-use Rattle.rule_text.proofs.text.put_text.Reads as put-text-reads
 
--- src/text.rt:47:9
 put-text-requires : tie.Need-put-text-requires
 put-text-requires c κs = let s = c .before .before .before in room-first (decimal (s .args .number)) (s .pre .1)
 
--- src/text.rt:48:5
 put-decimal-requires : tie.Need-put-decimal-requires
 put-decimal-requires c κs =
     let p = c .before .before .before in
     let s = p .before .before .before .before in
     (s .pre .0, room-next (decimal (s .args .number)) (s .pre .1) (p .put-text .ensures))
 
--- src/text.rt:43:1
 same-length : tie.Need-same-length
 same-length c = search needs
 
--- src/text.rt:43:1
 returns : tie.Need-returns
 returns c =
     let q = c .before .before in

@@ -1,4 +1,6 @@
-use mathlib.Core.Path.{_≡_, sym, ap, _∙_}
+-- `rule_text::text::put_records` meets its contract. The loop's invariant is `Left`: the records from the place on are left to print. The measure is what is left
+-- of the bytes. Where bytes are left the reader finds a record. Assumes nothing.
+use mathlib.Core.Path.{sym, ap, _∙_}
 use Prim.Native.Nat.{_-_}
 use native.Mathlib.Omega.{arith}
 use lib.ListN.{length}
@@ -14,11 +16,6 @@ use Rattle.rule_text.proofs.Left.{Left, Next, left-start, left-next, le
 use Rattle.rule_text.proofs.Put.{put-length}
 use Rattle.rule_text.proofs.text.put_records.Statement.{statement}
 use Rattle.rule_text.proofs.text.put_records.Tie as tie
-use Rattle.rule_text.proofs.text.put_records.Reads as reads
-use Rattle.rule_text.proofs.text.put_records.Lts as lts
-use Rattle.expr.proofs.read.Reads as read-reads
-use Rattle.rule_text.proofs.text.put_gap.Reads as put-gap-reads
-use Rattle.rule_text.proofs.text.put_kind.Reads as put-kind-reads
 
 abbrev Inv-loop : tie.InvT-loop
 Inv-loop flags expression out₀ at next₀ place₀ out next place = Left flags expression (shown (made flags expression)) at place next out₀ out
@@ -26,7 +23,6 @@ Inv-loop flags expression out₀ at next₀ place₀ out next place = Left flags
 abbrev μ-loop : tie.MeasureT-loop
 μ-loop flags expression out₀ at next₀ place₀ out next place = length expression - place
 
--- src/text.rt:73:5
 loop-holds : tie.Need-loop-holds Inv-loop μ-loop
 loop-holds c =
     let s = c .before .before in
@@ -56,40 +52,32 @@ never c =
     let s = c .before .before .before .before .before .before in
     left-found (c .before .before .before .loop .inv) (s .pre .0) (c .before .before .loop-test .taken) (c .before .read .result) (c .before .read .ensures) (c .match .keys2)
 
--- src/text.rt:74:13
 read-requires : tie.Need-read-requires Inv-loop μ-loop
 read-requires c κs = search needs
 
--- src/text.rt:75:28
 enum-known-answer : tie.Need-enum-known-answer Inv-loop μ-loop
 enum-known-answer c = search needs
 
--- src/text.rt:76:13
 same-length : tie.Need-same-length Inv-loop μ-loop
 same-length c = absurd (never c)
 
--- src/text.rt:76:13
 returns : tie.Need-returns Inv-loop μ-loop
 returns c = absurd (never c)
 
--- src/text.rt:79:13
 put-gap-requires : tie.Need-put-gap-requires Inv-loop μ-loop
 put-gap-requires c κs = let a = c .before .before in left-gap (walk a .loop .inv) (next a) (start a .pre .2)
 
--- src/text.rt:80:9
 put-kind-requires : tie.Need-put-kind-requires Inv-loop μ-loop
 put-kind-requires c κs =
     let p = c .before .before .before in
     let a = p .before .before .before in
     (read-index (found a) 10 (omega arith), left-kind (walk a .loop .inv) (next a) (p .put-gap .ensures) (start a .pre .2))
 
--- src/text.rt:73:5
 loop-less : tie.Need-loop-less Inv-loop μ-loop
 loop-less c =
     let a = c .before .before .before .before .before .before .before .before .before in
     omega (arith, found a .after, a .before .before .before .loop-test .taken)
 
--- src/text.rt:73:5
 loop-again : tie.Need-loop-again Inv-loop μ-loop
 loop-again c =
     let q = c .before .before in
@@ -97,11 +85,9 @@ loop-again c =
     let a = p .before .before .before in
     left-step (walk a .loop .inv) (next a) (p .put-gap .ensures) (q .put-kind .ensures)
 
--- src/text.rt:67:1
 same-length-2 : tie.Need-same-length-2 Inv-loop μ-loop
 same-length-2 c = put-length (left-end (c .before .loop .inv) (c .loop-test .left))
 
--- src/text.rt:67:1
 returns-2 : tie.Need-returns-2 Inv-loop μ-loop
 returns-2 c = left-end (c .before .loop .inv) (c .loop-test .left)
 

@@ -1,3 +1,5 @@
+-- `rule_text::text::put_text` meets its contract. The loop's invariant: the bytes passed are written from the place on. The measure is what is left of the text.
+-- Assumes nothing.
 use mathlib.Core.List.{List}
 use mathlib.Core.Path.{_≡_, refl, ap, _∙_}
 use Prim.Native.Nat.{ℕ, _+_, _-_, _≤_}
@@ -7,8 +9,6 @@ use lib.Seq.{sets, length-sets, take-all}
 use Rattle.rule_text.proofs.Put.{stores-more}
 use Rattle.rule_text.proofs.text.put_text.Statement.{statement}
 use Rattle.rule_text.proofs.text.put_text.Tie as tie
-use Rattle.rule_text.proofs.text.put_text.Reads as reads
-use Rattle.rule_text.proofs.text.put_text.Lts as lts
 
 abbrev Inv-loop : tie.InvT-loop
 Inv-loop text out₀ at i₀ i-end out i = (i ≤ length text) × (i-end ≡ length text) × (out ≡ sets out₀ at (take i text))
@@ -16,49 +16,39 @@ Inv-loop text out₀ at i₀ i-end out i = (i ≤ length text) × (i-end ≡ len
 abbrev μ-loop : tie.MeasureT-loop
 μ-loop text out₀ at i₀ i-end out i = length text - i
 
--- src/text.rt:17:5
 loop-holds : tie.Need-loop-holds Inv-loop μ-loop
 loop-holds c = (omega arith, refl, refl)
 
--- src/text.rt:18:23
 shared-slice-read-out : tie.Need-shared-slice-read-out Inv-loop μ-loop
 shared-slice-read-out c = omega arith
 
--- src/text.rt:18:13
 add-out : tie.Need-add-out Inv-loop μ-loop
 add-out c = omega arith
 
--- src/text.rt:18:9
 slice-write-out : tie.Need-slice-write-out Inv-loop μ-loop
 slice-write-out c =
     let l = c .before .before .loop in
     let a = c .before .before .before .args in
     omega (arith, ap length (l .inv .2), length-sets (a .out .now) (a .at) (take (l .i) (a .text .now)))
 
--- src/text.rt:17:9
 add-i : tie.Need-add-i Inv-loop μ-loop
 add-i c = omega arith
 
--- src/text.rt:17:5
 loop-less : tie.Need-loop-less Inv-loop μ-loop
 loop-less c = omega arith
 
--- src/text.rt:17:5
 loop-again : tie.Need-loop-again Inv-loop μ-loop
 loop-again c =
     let l = c .before .before .loop in
     let a = c .before .before .before .args in
     (omega arith, refl, ap (λ (o : List ℕ). set o (a .at + l .i) (getD (a .text .now) (l .i) 0)) (l .inv .2) ∙ stores-more (a .out .now) (a .text .now) (a .at) (l .i) 0 (omega arith))
 
--- src/text.rt:20:5
 add-result : tie.Need-add-result Inv-loop μ-loop
 add-result c = omega arith
 
--- src/text.rt:13:1
 same-length : tie.Need-same-length Inv-loop μ-loop
 same-length c = ap length (c .before .loop .inv .2) ∙ simp length-sets
 
--- src/text.rt:13:1
 returns : tie.Need-returns Inv-loop μ-loop
 returns c =
     let l = c .before .loop in

@@ -1,3 +1,4 @@
+-- `rule_text::line::all_digits` meets its contract. The loop's invariant: all bytes passed are digits. The measure is what is left of the bytes. Assumes nothing.
 use mathlib.Core.Bool.{true}
 use mathlib.Core.Path.{_≡_, refl, sym, ap, _∙_}
 use Prim.Native.Nat.{_-_, _≤_}
@@ -10,11 +11,8 @@ use borrow.Author.Tests.{not-true, not-false}
 use Rattle.bits.specs.Range.{all}
 use Rattle.rule_text.specs.Parts.{isDigit}
 use Rattle.rule_text.proofs.Digits.{all-none, all-more, all-stop}
-use Rattle.rule_text.proofs.all_digits.Statement.{statement}
-use Rattle.rule_text.proofs.all_digits.Tie as tie
-use Rattle.rule_text.proofs.all_digits.Reads as reads
-use Rattle.rule_text.proofs.all_digits.Lts as lts
-use Rattle.rule_text.proofs.is_digit.Reads as is-digit-reads
+use Rattle.rule_text.proofs.line.all_digits.Statement.{statement}
+use Rattle.rule_text.proofs.line.all_digits.Tie as tie
 
 abbrev Inv-loop : tie.InvT-loop
 Inv-loop bytes i₀ i-end i = (i ≤ length bytes) × (i-end ≡ length bytes) × (all isDigit (take i bytes) ≡ true)
@@ -22,41 +20,33 @@ Inv-loop bytes i₀ i-end i = (i ≤ length bytes) × (i-end ≡ length bytes) �
 abbrev μ-loop : tie.MeasureT-loop
 μ-loop bytes i₀ i-end i = length bytes - i
 
--- src/lib.rt:54:5
 loop-holds : tie.Need-loop-holds Inv-loop μ-loop
 loop-holds c = (omega arith, refl, all-none isDigit (now (c .before .args .bytes)))
 
--- src/lib.rt:55:22
 shared-slice-read-is-digit : tie.Need-shared-slice-read-is-digit Inv-loop μ-loop
 shared-slice-read-is-digit c = omega arith
 
--- src/lib.rt:55:13
 is-digit-requires : tie.Need-is-digit-requires Inv-loop μ-loop
 is-digit-requires c κs = search needs
 
--- src/lib.rt:56:13
 returns : tie.Need-returns Inv-loop μ-loop
 returns c =
     let l = c .before .before .before .before .loop in
     let s = c .before .before .before .before .before .before .args .bytes .now in
     sym (all-stop isDigit s (l .i) (omega arith) (sym (c .before .is-digit .ensures) ∙ not-true _ (c .if1 .taken)))
 
--- src/lib.rt:54:9
 add-i : tie.Need-add-i Inv-loop μ-loop
 add-i c = omega arith
 
--- src/lib.rt:54:5
 loop-less : tie.Need-loop-less Inv-loop μ-loop
 loop-less c = omega arith
 
--- src/lib.rt:54:5
 loop-again : tie.Need-loop-again Inv-loop μ-loop
 loop-again c =
     let l = c .before .before .before .before .loop in
     let s = c .before .before .before .before .before .before .args .bytes .now in
     (omega arith, refl, all-more isDigit s (l .i) (omega arith) (l .inv .2) (sym (c .before .is-digit .ensures) ∙ not-false _ (c .if1 .left)))
 
--- src/lib.rt:51:1
 returns-2 : tie.Need-returns-2 Inv-loop μ-loop
 returns-2 c =
     let l = c .before .loop in

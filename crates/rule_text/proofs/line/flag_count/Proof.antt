@@ -1,49 +1,39 @@
-use mathlib.Core.Path.{_≡_, refl, sym, ap, _∙_}
-use native.Mathlib.Omega.{arith}
-use Rattle.rules.specs.Text.{flagsOf, firstOf}
+-- `rule_text::line::flag_count` meets its contract: each number that is matched has the flag count answered, and another number has none. Assumes nothing.
+use mathlib.Core.Path.{sym, ap}
 use Rattle.bits.specs.Range.{from, keep}
-use Rattle.rule_text.proofs.Line.{flags-none}
-use Rattle.rule_text.proofs.flag_count.Statement.{statement}
-use Rattle.rule_text.proofs.flag_count.Tie as tie
-use Rattle.rule_text.proofs.flag_count.Reads as reads
-use Rattle.rule_text.proofs.flag_count.Lts as lts
+use Rattle.rules.specs.Text.{flagsOf, firstOf}
+use Rattle.rule_text.proofs.Printed.{flags-none}
+use Rattle.rule_text.proofs.line.flag_count.Statement.{statement}
+use Rattle.rule_text.proofs.line.flag_count.Tie as tie
 
--- src/lib.rt:28:1
 returns : tie.Need-returns
 unfolding flagsOf firstOf keep from
 returns c = sym (ap flagsOf (c .match .keys1))
 
--- src/lib.rt:28:1
 returns-2 : tie.Need-returns-2
 unfolding flagsOf firstOf keep from
 returns-2 c = sym (ap flagsOf (c .match .keys2))
 
--- src/lib.rt:28:1
 returns-3 : tie.Need-returns-3
 unfolding flagsOf firstOf keep from
 returns-3 c = sym (ap flagsOf (c .match .keys3))
 
--- src/lib.rt:28:1
 returns-4 : tie.Need-returns-4
 unfolding flagsOf firstOf keep from
 returns-4 c = sym (ap flagsOf (c .match .keys4))
 
--- src/lib.rt:28:1
 returns-5 : tie.Need-returns-5
 unfolding flagsOf firstOf keep from
 returns-5 c = sym (ap flagsOf (c .match .keys5))
 
--- src/lib.rt:28:1
 returns-6 : tie.Need-returns-6
 unfolding flagsOf firstOf keep from
 returns-6 c = sym (ap flagsOf (c .match .keys6))
 
--- src/lib.rt:28:1
 returns-7 : tie.Need-returns-7
 unfolding flagsOf firstOf keep from
 returns-7 c = sym (ap flagsOf (c .match .keys7))
 
--- src/lib.rt:28:1
 returns-8 : tie.Need-returns-8
 returns-8 c =
     let r = c .match .rest in
