@@ -35,14 +35,14 @@ pub struct Best {
 }
 
 // The cost of a product, and of an OR chain, of the flags of a mask.
-pub fn product_cost(mask: usize) -> usize
+fn product_cost(mask: usize) -> usize
     requires { ⌜ (0 < mask) × (mask < 64) ⌝ }
     ensures { λ r. ⌜ r ≡ cost (raw.cube mask) ⌝ }
 {
     2 * (u64::count_ones(mask as u64) as usize) - 1
 }
 
-pub fn chain_cost(mask: usize) -> usize
+fn chain_cost(mask: usize) -> usize
     requires { ⌜ (0 < mask) × (mask < 64) ⌝ }
     ensures { λ r. ⌜ r ≡ cost (raw.orChain mask) ⌝ }
 {
