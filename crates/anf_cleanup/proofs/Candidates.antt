@@ -127,4 +127,4 @@ cube-below w c e p =
 pub cube-limit : (w : ℕ) (b : Best) → Chosen (places 64 w) b → 0 < b .cube → (b .cube < 64) × (cost (cube (b .cube)) + b .inner ≤ 396)
 cube-limit w b h p =
     let small = cube-below w (b .cube) (h .best) p in
-    (small, omega (arith, product-limit (b .cube) small p, h .inner p, inner-limit w (b .cube)))
+    (small, omega (arith, product-limit (b .cube) small p, h .inner p .cost, inner-limit w (b .cube)))

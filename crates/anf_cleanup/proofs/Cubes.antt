@@ -32,6 +32,7 @@ use Rattle.rules.proofs.Recursion.{cubes}
 use Rattle.form.specs.Masks.{familyWords}
 use Rattle.anf_cleanup.specs.Plan.{bestOf, tried, InnerKept, Tried, Chosen}
 use Rattle.anf_cleanup.specs.declared.Best.{Best}
+use Rattle.anf_cleanup.specs.declared.Choice.the-variants.{Open}
 use Rattle.anf_cleanup.proofs.Bounds.{flags-below}
 use Rattle.anf_cleanup.proofs.Candidates.{isCube-within}
 use Rattle.form.proofs.Entries.{getD-families, family-lt, places-family}
@@ -66,7 +67,7 @@ pub record Searching (l : List ℕ) (b : Best) (w : ℕ) : Type 0 where
   pub inner : InnerKept l b
 
 pub search-start : (w : ℕ) (words : List ℕ) (u : ℕ) → words ≡ familyWords → u ≡ union (places 64 w)
-    → Searching (places 64 w) (record { cube = 0; saving = 0; inner = 0 }) (getD words u 0)
+    → Searching (places 64 w) (record { cube = 0; saving = 0; inner = 0; choice = Open }) (getD words u 0)
 unfolding bestCube greatest
 search-start w words u p q =
     let l = places 64 w in

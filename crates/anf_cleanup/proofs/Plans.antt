@@ -1,8 +1,8 @@
--- Plans and the trees that they make: the cheaper of two plans, the best after the candidate of a rule, and what each choice's tree costs.
+-- Plans and the trees that they make: the best after the candidate of a rule, and what each choice's tree costs.
 -- It rests on the definitions of specs/Plan, on the rules' equations (Rules) and on the raw form's cost (rules, Cost). Assumes nothing.
---   planned-cheaper, planned-kept                  == the candidate where it costs strictly less, and the best where not
 --   planned-chosen                                 == the plan of a choice, for the tree that it makes
---   improved-none, improved-one                    == a rule with no candidate, and with one
+--   planned-right, right-open                      == a plan's choice is right, and so is one that is left open
+--   improved-none, improved-one, improved-kept     == a rule with no candidate; with one that costs strictly less than the best, and with one that does not
 --   planned-contest                                == the raw form, and then the candidates of rules 2, 3 and 4 in turn
 --   cost-constant, cost-family, cost-raw           == what the trees of the choices cost; a constant 1 in front costs 2
 --   cost-partial, cost-whole, cost-rest            == so of a partial OR, of a cube that covers every mask, and of one that leaves a remainder
@@ -23,29 +23,34 @@ use Rattle.rules.specs.Form.{cube, orChain, rawForm, rawCost}
 use Rattle.rules.specs.Monomial.{constant, monomials}
 use Rattle.rules.specs.Tree.{Tree, AN, NO, cost}
 use Rattle.rules.proofs.Cost.{cost-rawForm}
-use Rattle.anf_cleanup.specs.Plan.{built, Allowed, Planned, Cheaper, Improved}
+use Rattle.anf_cleanup.specs.Plan.{built, Allowed, rank, Right, Parts, Planned, Improved}
 use Rattle.anf_cleanup.specs.declared.Choice.{Choice}
-use Rattle.anf_cleanup.specs.declared.Choice.the-variants.{Constant, Family, Raw, Partial, Cube, Absorption}
+use Rattle.anf_cleanup.specs.declared.Choice.the-variants.{Constant, Family, Raw, Partial, Cube, Absorption, Open}
 use Rattle.anf_cleanup.specs.declared.Plan.{Plan}
 use Rattle.anf_cleanup.proofs.Rules.{cleanup-contest, absorption-tree}
 
-module _ (l : List ℕ) (t u : Tree) (p q : Plan) (h : Planned l t p) (k : Planned l u q) where
-  decided : (b : Bool) → ltb (cost u) (cost t) ≡ b → cheaper t u ≡ elim b [ true ↦ u | false ↦ t ]
-  unfolding cheaper
-  decided b e = ap (λ (c : Bool). elim c as (λ _. Tree) [ true ↦ u | false ↦ t ]) e
+decided : (t u : Tree) (b : Bool) → ltb (cost u) (cost t) ≡ b → cheaper t u ≡ elim b [ true ↦ u | false ↦ t ]
+unfolding cheaper
+decided t u b e = ap (λ (c : Bool). elim c as (λ _. Tree) [ true ↦ u | false ↦ t ]) e
 
-  pub planned-cheaper : q .cost < p .cost → Planned l (cheaper t u) q
-  planned-cheaper i = subst (λ (x : Tree). Planned l x q) (sym (decided true (lt-ltb (cost u) (cost t) (omega (arith, h .costs, k .costs))))) k
+module _ (l : List ℕ) (c : Choice) (n : ℕ) (i r : Choice) (w : Plan) (e : w ≡ record { choice = c; cost = n; inner = i; rest = r })
+    (k : n ≡ cost (built c l)) (a : Allowed c l) (z : rank c ≡ 0) (s : Parts c l i r) where
+  pub planned-chosen : (t : Tree) → t ≡ built c l → Planned l t w
+  planned-chosen t q = rw e (record { makes = sym q; costs = k ∙ ap cost (sym q); allowed = a; closed = z; parts = s })
 
-  pub planned-kept : p .cost ≤ q .cost → Planned l (cheaper t u) p
-  planned-kept i = subst (λ (x : Tree). Planned l x p) (sym (decided false (le-ltb (cost u) (cost t) (omega (arith, h .costs, k .costs))))) h
+  pub improved-one : (us : List Tree) (p : Plan) → us ≡ built c l ∷ [] → n < p .cost → Improved l us p w
+  improved-one us p f m t h =
+      rw f (planned-chosen (cheaper t (built c l)) (decided t (built c l) true (lt-ltb (cost (built c l)) (cost t) (omega (arith, k, h .costs)))))
 
-module _ (l : List ℕ) (c : Choice) (n : ℕ) (k : n ≡ cost (built c l)) where
-  pub planned-chosen : (t : Tree) → t ≡ built c l → Allowed c l → Planned l t (record { choice = c; cost = n })
-  planned-chosen t e a = record { makes = sym e; costs = k ∙ ap cost (sym e); allowed = a }
+pub improved-kept : (l : List ℕ) (us : List Tree) (p : Plan) (u : Tree) (n : ℕ) → us ≡ u ∷ [] → n ≡ cost u → p .cost ≤ n → Improved l us p p
+improved-kept l us p u n f k m t h =
+    rw f (subst (λ (x : Tree). Planned l x p) (sym (decided t u false (le-ltb (cost u) (cost t) (omega (arith, k, h .costs))))) h)
 
-  pub improved-one : (us : List Tree) (p q : Plan) → us ≡ built c l ∷ [] → Cheaper p c n q → Allowed c l → Improved l us p q
-  improved-one us p q e better a t h = rw e (better l t (built c l) h (planned-chosen (built c l) refl a))
+pub planned-right : (l : List ℕ) (p : Plan) → Planned l (cleanup l) p → Right (p .choice) l
+planned-right l p h = record { makes = h .makes; allowed = h .allowed }
+
+pub right-open : (l : List ℕ) → Right Open l
+right-open l = record { makes = refl; allowed = tt }
 
 pub improved-none : (l : List ℕ) (us : List Tree) (p : Plan) → us ≡ [] → Improved l us p p
 improved-none l us p e t h = rw e h

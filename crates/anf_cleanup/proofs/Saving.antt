@@ -7,8 +7,8 @@
 --   Candidate l c k                == c is a candidate cube of the form l, and k is its stripped form
 --   stripped-cube                  == then k may be a stripped form of c
 --   inner-bounds                   == no number of these is above the next: the cost of the OR chain of k's flags, of k cleaned, of k raw, the gross saving
---   cost-stripped, saving-cube     == k's cleaned cost is the stripped form's, and the gross saving less that is document 01's saving
---   taken-more, taken-kept         == a cube that saves more than the best so far takes its place, and one that does not leaves it
+--   tried-more, tried-kept         == a cube that saves more than the best so far takes its place, and one that does not leaves it
+--   known-cube                     == what is known of a candidate from its gross saving and its cleaned inner form
 --   tried-passed                   == so does one that would not save more even with an inner form of the least cost
 use mathlib.Core.Bool.{Bool, true, false}
 use mathlib.Core.List.{List}
@@ -37,10 +37,13 @@ use Rattle.rules.proofs.Covered.{covered-within, ascending-covered, ascending-s
 use Rattle.rules.proofs.Floor.{chain-cleanup}
 use Rattle.rules.proofs.Literals.{literals-covered}
 use Rattle.rules.proofs.Size.{cost-cleanup}
-use Rattle.anf_cleanup.specs.Plan.{bestOf, tried, Stripped, gross, Taken, Tried}
+use Rattle.anf_cleanup.specs.Plan.{bestOf, tried, Right, Stripped, gross, Known, Tried}
 use Rattle.anf_cleanup.specs.declared.Best.{Best}
+use Rattle.anf_cleanup.specs.declared.Choice.{Choice}
+use Rattle.anf_cleanup.specs.declared.Choice.the-variants.{Open}
 use Rattle.anf_cleanup.proofs.Bounds.{digit-le}
 use Rattle.anf_cleanup.proofs.Candidates.{isCube-many}
+use Rattle.anf_cleanup.proofs.Plans.{right-open}
 
 -- ---- one more mask
 
@@ -129,23 +132,37 @@ module _ (l : List ℕ) (c : ℕ) (k : List ℕ) (u : Candidate l c k) where
   pub inner-bounds : (cost (orChain (union k)) ≤ cost (cleanup k)) × (cost (cleanup k) ≤ rawCost k) × (rawCost k ≤ gross c k)
   inner-bounds = (chain-cleanup k rising, cost-cleanup k rising, gross-raw c k (stripped-cube (rawCost k) refl))
 
-  pub cost-stripped : (n : ℕ) → n ≡ cost (cleanup k) → n ≡ cost (cleanup (stripped c l))
+  cost-stripped : (n : ℕ) → n ≡ cost (cleanup k) → n ≡ cost (cleanup (stripped c l))
   cost-stripped n e = e ∙ ap (λ (x : List ℕ). cost (cleanup x)) (u .inner)
 
-  pub saving-cube : (g n : ℕ) → g ≡ gross c k → n ≡ cost (cleanup k) → g - n ≡ cubeSaving cleanup l c
+  saving-cube : (g n : ℕ) → g ≡ gross c k → n ≡ cost (cleanup k) → g - n ≡ cubeSaving cleanup l c
   unfolding cubeSaving
   saving-cube g n p q = ap₂ (λ (x y : ℕ). x - y) (p ∙ gross-cube) (cost-stripped n q)
 
 -- ---- the best after a cube
 
-module _ (c s n : ℕ) (b : Best) where
-  pub taken-more : b .saving < s → Taken c s n b (record { cube = c; saving = s; inner = n })
-  taken-more m l e q k = record { best = sym (settled l c b s e q true (lt-ltb (b .saving) s m)); inner = λ _ _. k }
+module _ (l : List ℕ) (b c : Best) (k : Known l c) where
+  pub tried-more : b .saving < c .saving → Tried l (c .cube) b c
+  tried-more m = record {
+    best = sym (settled l (c .cube) b (c .saving) (k .test) (k .saving) true (lt-ltb (b .saving) (c .saving) m));
+    inner = λ _ _. k .inner;
+  }
 
-  pub taken-kept : s ≤ b .saving → Taken c s n b b
-  taken-kept m l e q k = record { best = sym (settled l c b s e q false (le-ltb (b .saving) s m)); inner = λ i. i }
+  pub tried-kept : c .saving ≤ b .saving → Tried l (c .cube) b b
+  tried-kept m = record {
+    best = sym (settled l (c .cube) b (c .saving) (k .test) (k .saving) false (le-ltb (b .saving) (c .saving) m));
+    inner = λ i. i;
+  }
 
-pub tried-passed : (l : List ℕ) (c : ℕ) (k : List ℕ) (b : Best) → Candidate l c k → gross c k - cost (orChain (union k)) ≤ b .saving → Tried l c b b
-tried-passed l c k b u h =
-    taken-kept c _ _ b (omega (arith, inner-bounds l c k u)) l (u .test) (saving-cube l c k u (gross c k) (cost (cleanup k)) refl refl)
-    (cost-stripped l c k u (cost (cleanup k)) refl)
+module _ (l : List ℕ) (c : ℕ) (k : List ℕ) (u : Candidate l c k) where
+  pub known-cube : (g n : ℕ) (d : Choice) → g ≡ gross c k → n ≡ cost (cleanup k) → Right d k
+      → Known l (record { cube = c; saving = g - n; inner = n; choice = d })
+  known-cube g n d p q r = record {
+    test = u .test;
+    saving = saving-cube l c k u g n p q;
+    inner = record { cost = cost-stripped l c k u n q; choice = subst (Right d) (u .inner) r };
+  }
+
+  pub tried-passed : (b : Best) → gross c k - cost (orChain (union k)) ≤ b .saving → Tried l c b b
+  tried-passed b h =
+      tried-kept l b _ (known-cube (gross c k) (cost (cleanup k)) Open refl refl (right-open k)) (omega (arith, inner-bounds l c k u))

@@ -1,14 +1,16 @@
 -- A plan: which rule wins for a form, and at what cost.
 --   built c l            == the tree that the choice c makes of the form l
 --   Allowed c l          == what the choice c supposes of the form l: that its rule applies, with the mask that the rule chooses
---   Planned l t p        == the plan p makes the tree t of the form l, by a rule that applies, and tells its cost
---   Cheaper p c n q      == q is the cheaper of the plan p and of the choice c at the cost n, and p where they cost the same
+--   rank c               == 1 where the choice is left open, else 0
+--   Right c l            == the choice c makes the cleaned form of l, by a rule that applies
+--   Parts c l i r        == i and r are right for what the choice c leaves to clean of the form l: the inner form and the remainder
+--   Planned l t p        == the plan p makes the tree t of the form l, by a rule that applies, and tells its cost and choices that are right for its parts
 --   Improved l us p q    == where p plans the best tree so far, q plans the best after the candidates us
 --   tried l b c          == document 01's best after the mask c is tried, where b was the best before
 --   Tried l c b r        == so of the code's b and r, which keep the cost of the cleaned inner form too
 --   Stripped c k r       == k may be a stripped form of the cube c: it has two masks or more, and the raw cost r
 --   gross c k            == what the cube c saves before its inner form k is paid for
---   Taken c s n b r      == r is the best after the cube c is tried, for every form in which c saves s and its cleaned inner form costs n
+--   Known l b            == the cube of b saves what b says, and its inner form's cost and choice are right
 --   Chosen l b           == b is the best cube of the form l with the cost of the cleaned inner form, or no cube
 use mathlib.Core.Bool.{true, false, not}
 use mathlib.Core.List.{List, [], _∷_, foldl}
@@ -25,7 +27,7 @@ use Rattle.rules.specs.Monomial.{constant}
 use Rattle.rules.specs.Tree.{Tree, CO, AN, XO, cost}
 use Rattle.anf_cleanup.specs.declared.Best.{Best}
 use Rattle.anf_cleanup.specs.declared.Choice.{Choice}
-use Rattle.anf_cleanup.specs.declared.Choice.the-variants.{Constant, Family, Raw, Partial, Cube, Absorption}
+use Rattle.anf_cleanup.specs.declared.Choice.the-variants.{Constant, Family, Raw, Partial, Cube, Absorption, Open}
 use Rattle.anf_cleanup.specs.declared.Plan.{Plan}
 
 -- the candidate of a rule that has one
@@ -40,6 +42,7 @@ built Raw l = rawForm l
 built (Partial m) l = XO (orChain m) (cleanup (keep (λ x. not (mem x (family m))) l))
 built (Cube c) l = withRest cleanup (AN (cube c) (cleanup (stripped c l))) (keep (λ m. not (within c m)) l)
 built Absorption l = only (rawForm l) (absorption l)
+built Open l = cleanup l
 
 abbrev pub Allowed : Choice → List ℕ → Type 0
 Allowed Constant l = Unit
@@ -48,15 +51,36 @@ Allowed Raw l = Unit
 Allowed (Partial m) l = (0 < m) × (m ≡ bestFamily l)
 Allowed (Cube c) l = (0 < c) × (c ≡ bestCube cleanup l)
 Allowed Absorption l = absorption l ≡ built Absorption l ∷ []
+Allowed Open l = Unit
+
+abbrev pub rank : Choice → ℕ
+rank Constant = 0
+rank Family = 0
+rank Raw = 0
+rank (Partial m) = 0
+rank (Cube c) = 0
+rank Absorption = 0
+rank Open = 1
+
+pub record Right (c : Choice) (l : List ℕ) : Type 0 where
+  pub makes : built c l ≡ cleanup l
+  pub allowed : Allowed c l
+
+abbrev pub Parts : Choice → List ℕ → Choice → Choice → Type 0
+Parts Constant l i r = Unit
+Parts Family l i r = Unit
+Parts Raw l i r = Unit
+Parts (Partial m) l i r = Right r (keep (λ x. not (mem x (family m))) l)
+Parts (Cube c) l i r = Right i (stripped c l) × Right r (keep (λ m. not (within c m)) l)
+Parts Absorption l i r = Unit
+Parts Open l i r = Unit
 
 pub record Planned (l : List ℕ) (t : Tree) (p : Plan) : Type 0 where
   pub makes : built (p .choice) l ≡ t
   pub costs : p .cost ≡ cost t
   pub allowed : Allowed (p .choice) l
-
--- the candidate takes the best's place only where it is strictly cheaper
-abbrev pub Cheaper : Plan → Choice → ℕ → Plan → Type 0
-Cheaper p c n q = (l : List ℕ) (t u : Tree) → Planned l t p → Planned l u (record { choice = c; cost = n }) → Planned l (cheaper t u) q
+  pub closed : rank (p .choice) ≡ 0
+  pub parts : Parts (p .choice) l (p .inner) (p .rest)
 
 abbrev pub Improved : List ℕ → List Tree → Plan → Plan → Type 0
 Improved l us p q = (t : Tree) → Planned l t p → Planned l (foldl cheaper t us) q
@@ -65,9 +89,13 @@ Improved l us p q = (t : Tree) → Planned l t p → Planned l (foldl cheaper t 
 abbrev pub bestOf : Best → paper.Best
 bestOf b = record { mask = b .cube; saving = b .saving }
 
--- the inner cost that is kept with a cube is that of its cleaned inner form
+-- the cost and the choice that are kept with a cube are those of its inner form
+pub record InnerOf (l : List ℕ) (b : Best) : Type 0 where
+  pub cost : b .inner ≡ cost (cleanup (stripped (b .cube) l))
+  pub choice : Right (b .choice) (stripped (b .cube) l)
+
 abbrev pub InnerKept : List ℕ → Best → Type 0
-InnerKept l b = 0 < b .cube → b .inner ≡ cost (cleanup (stripped (b .cube) l))
+InnerKept l b = 0 < b .cube → InnerOf l b
 
 -- one more mask: a candidate cube replaces the best if it saves strictly more
 unfoldable pub tried : List ℕ → paper.Best → ℕ → paper.Best
@@ -86,9 +114,10 @@ pub record Stripped (c : ℕ) (k : List ℕ) (r : ℕ) : Type 0 where
 unfoldable pub gross : ℕ → List ℕ → ℕ
 gross c k = rawCost k + 2 * ones c * (length k - 1) - 2 * digit (constant k)
 
-abbrev pub Taken : ℕ → ℕ → ℕ → Best → Best → Type 0
-Taken c s n b r =
-    (l : List ℕ) → isCube l c ≡ true → s ≡ cubeSaving cleanup l c → n ≡ cost (cleanup (stripped c l)) → Tried l c b r
+pub record Known (l : List ℕ) (b : Best) : Type 0 where
+  pub test : isCube l (b .cube) ≡ true
+  pub saving : b .saving ≡ cubeSaving cleanup l (b .cube)
+  pub inner : InnerOf l b
 
 pub record Chosen (l : List ℕ) (b : Best) : Type 0 where
   pub best : b .cube ≡ bestCube cleanup l

@@ -10,9 +10,9 @@ ghost use Rattle.form.specs.Masks.{masks, familyWords, supersetWords};
 ghost use Rattle.rules.specs.Cleanup as paper;
 ghost use Rattle.rules.specs.Form as raw;
 ghost use Rattle.rules.specs.Tree.{cost};
-ghost use Rattle.anf_cleanup.specs.Plan.{Planned, Cheaper, Improved, Stripped, gross, Taken, Tried, Chosen};
+ghost use Rattle.anf_cleanup.specs.Plan.{Planned, Improved, Stripped, gross, Tried, Chosen};
 
-// The rule that wins: no monomials, the whole OR family, the raw form, or the candidate of rule 2, 3 or 4, with its mask.
+// The rule that wins: no monomials, the whole OR family, the raw form, or the candidate of rule 2, 3 or 4, with its mask. `Open` leaves it to be found.
 pub enum Choice {
     Constant,
     Family,
@@ -20,18 +20,23 @@ pub enum Choice {
     Partial(usize),
     Cube(usize),
     Absorption,
+    Open,
 }
 
+// The choice for a form, its cost, and the choices for what it leaves to clean: rule 3's inner form, and the remainder of rule 2 or 3.
 pub struct Plan {
     pub choice: Choice,
     pub cost: usize,
+    pub inner: Choice,
+    pub rest: Choice,
 }
 
-// The best cube so far, 0 for none, with its saving and the cost of the cleaned inner form.
+// The best cube so far, 0 for none, with its saving, and the cost of the cleaned inner form with its choice.
 pub struct Best {
     pub cube: usize,
     pub saving: usize,
     pub inner: usize,
+    pub choice: Choice,
 }
 
 // The cost of a product, and of an OR chain, of the flags of a mask.
@@ -53,14 +58,30 @@ fn chain_cost(mask: usize) -> usize
     ones + 1
 }
 
-// The cheaper of the best so far and a candidate, which must be strictly cheaper.
-fn cheaper(best: Plan, choice: Choice, cost: usize) -> Plan
-    ensures { λ r. ⌜ Cheaper best choice cost r ⌝ }
+// The plan of a choice that leaves no form to clean.
+fn whole(choice: Choice, cost: usize) -> Plan
+    ensures { λ r. ⌜ r ≡ record { choice = choice; cost = cost; inner = Choice.Open; rest = Choice.Open } ⌝ }
 {
-    if cost < best.cost {
-        return Plan { choice, cost };
+    Plan {
+        choice,
+        cost,
+        inner: Choice::Open,
+        rest: Choice::Open,
     }
-    best
+}
+
+// The plan of rule 3's candidate.
+fn factored(found: Best, cost: usize, rest: Choice) -> Plan
+    ensures { λ r. ⌜ r ≡ record { choice = Choice.Cube (found .cube); cost = cost; inner = found .choice; rest = rest } ⌝ }
+{
+    let cube = found.cube;
+    let inner = found.choice;
+    Plan {
+        choice: Choice::Cube(cube),
+        cost,
+        inner,
+        rest,
+    }
 }
 
 // The rule that wins for a form whose raw cost is `raw_cost`.
@@ -69,21 +90,15 @@ pub fn cleanup(form: Form, raw_cost: usize, families: &[u64; 64], supersets: &[u
     ensures { λ r. ⌜ Planned (masks form) (paper.cleanup (masks form)) r ⌝ }
 {
     if form.count() == 0 {
-        return Plan {
-            choice: Choice::Constant,
-            cost: 1,
-        };
+        return whole(Choice::Constant, 1);
     }
     if form.is_family(families) {
-        return Plan {
-            choice: Choice::Family,
-            cost: chain_cost(form.singles()) + 2 * form.constant(),
-        };
+        return whole(
+            Choice::Family,
+            chain_cost(form.singles()) + 2 * form.constant(),
+        );
     }
-    let first = Plan {
-        choice: Choice::Raw,
-        cost: raw_cost,
-    };
+    let first = whole(Choice::Raw, raw_cost);
     let second = partial_or(form, first, families, supersets);
     let third = common_cube(form, second, families, supersets);
     absorption(form, third)
@@ -100,11 +115,17 @@ fn partial_or(form: Form, best: Plan, families: &[u64; 64], supersets: &[u64; 64
     }
     let rest = form.without(mask, families);
     let plan = cleanup(rest, rest.raw_cost(), families, supersets);
-    cheaper(
-        best,
-        Choice::Partial(mask),
-        chain_cost(mask) + plan.cost + 1,
-    )
+    let cost = chain_cost(mask) + plan.cost + 1;
+    if best.cost <= cost {
+        return best;
+    }
+    let chosen = plan.choice;
+    Plan {
+        choice: Choice::Partial(mask),
+        cost,
+        inner: Choice::Open,
+        rest: chosen,
+    }
 }
 
 // Rule 3: the product of the best cube and the cleaned inner form, in XO with the cleaned remainder unless that is empty.
@@ -117,13 +138,21 @@ fn common_cube(form: Form, best: Plan, families: &[u64; 64], supersets: &[u64; 6
     if cube == 0 {
         return best;
     }
-    let factored = product_cost(cube) + found.inner + 1;
+    let product = product_cost(cube) + found.inner + 1;
     let rest = form.uncovered(cube, supersets);
     if rest.is_empty() {
-        return cheaper(best, Choice::Cube(cube), factored);
+        if best.cost <= product {
+            return best;
+        }
+        return factored(found, product, Choice::Open);
     }
     let plan = cleanup(rest, rest.raw_cost(), families, supersets);
-    cheaper(best, Choice::Cube(cube), factored + plan.cost + 1)
+    let cost = product + plan.cost + 1;
+    if best.cost <= cost {
+        return best;
+    }
+    let chosen = plan.choice;
+    factored(found, cost, chosen)
 }
 
 // The cube of the greatest saving, the smallest of equal ones: every mask of flags that occur is tried in ascending order.
@@ -135,6 +164,7 @@ fn best_cube(form: Form, families: &[u64; 64], supersets: &[u64; 64]) -> Best
         cube: 0,
         saving: 0,
         inner: 0,
+        choice: Choice::Open,
     };
     let mut left = families[form.flags()];
     while left != 0 {
@@ -167,7 +197,17 @@ fn try_cube(
         return best;
     }
     let plan = cleanup(inner, raw_cost, families, supersets);
-    better(best, cube, gross - plan.cost, plan.cost)
+    let saving = gross - plan.cost;
+    if saving <= best.saving {
+        return best;
+    }
+    let choice = plan.choice;
+    Best {
+        cube,
+        saving,
+        inner: plan.cost,
+        choice,
+    }
 }
 
 // What a cube saves before its inner form is paid for. The covered monomials have the inner form's literals and the cube's flags once each.
@@ -187,20 +227,6 @@ fn least_cost(inner: Form) -> usize
     chain_cost(inner.flags())
 }
 
-// The cube where it saves strictly more than the best so far.
-fn better(best: Best, cube: usize, saving: usize, cost: usize) -> Best
-    ensures { λ r. ⌜ Taken cube saving cost best r ⌝ }
-{
-    if best.saving < saving {
-        return Best {
-            cube,
-            saving,
-            inner: cost,
-        };
-    }
-    best
-}
-
 // Rule 4: of two monomials of which one is a subset of the other, the smaller without the rest of the larger.
 fn absorption(form: Form, best: Plan) -> Plan
     ensures { λ r. ⌜ Improved (masks form) (paper.absorption (masks form)) best r ⌝ }
@@ -215,5 +241,8 @@ fn absorption(form: Form, best: Plan) -> Plan
         return best;
     }
     let cost = product_cost(first) + product_cost(second - first) + 2 + 2 * form.constant();
-    cheaper(best, Choice::Absorption, cost)
+    if best.cost <= cost {
+        return best;
+    }
+    whole(Choice::Absorption, cost)
 }

@@ -1,8 +1,10 @@
--- Choices and the trees that they make: a plan's choice makes the cleaned form, and the choices that leave no form to clean make it of the numbers that
--- the code has in hand. It rests on the rules' equations (anf_cleanup, Rules) and on written trees (postfix, Writes). Assumes nothing.
+-- Choices and the trees that they make: a choice that is meant makes the cleaned form, and the choices that leave no form to clean make it of the numbers
+-- that the code has in hand. It rests on the rules' equations and on plans (anf_cleanup, Rules and Plans) and on written trees (postfix, Writes). Assumes nothing.
 --   digit-is, constant-small                   == a truth value from its digit; a form's constant as a digit is 0 or 1
---   planned-due, planned-writes                == what the choice of a plan needs and writes, from what the cleaned form needs and writes
+--   meant-due, meant-parts, meant-writes       == what a choice that is meant needs and writes, from what the cleaned form needs and writes
+--   planned-meant, part-meant                  == the choice of a plan is meant, and so is one that is right, with its parts left open
 --   constant-tree, family-tree                 == no monomials, and rule 1
+--   rank-le                                    == a choice is left open or not
 --   places-few                                 == the masks of a word are 64 at most
 --   absorption-two, absorption-up              == rule 4 has two monomials, ascending
 --   absorption-made                            == and makes its tree of them
@@ -23,32 +25,61 @@ use Rattle.rules.specs.Cleanup.{cleanup, atop, singles, absorption}
 use Rattle.rules.specs.Form.{cube, orChain}
 use Rattle.rules.specs.Monomial.{constant, monomials}
 use Rattle.rules.specs.Tree.{CO, AN, NO, write}
-use Rattle.anf_cleanup.specs.Plan.{built, Allowed, Planned}
+use Rattle.anf_cleanup.specs.Plan.{built, Allowed, rank, Right, Parts, Planned}
 use Rattle.anf_cleanup.specs.declared.Choice.{Choice}
-use Rattle.anf_cleanup.specs.declared.Choice.the-variants.{Constant, Family, Absorption}
+use Rattle.anf_cleanup.specs.declared.Choice.the-variants.{Constant, Family, Raw, Partial, Cube, Absorption, Open}
 use Rattle.anf_cleanup.specs.declared.Plan.{Plan}
 use Rattle.anf_cleanup.proofs.Bounds.{digit-le, pair-bounds}
+use Rattle.anf_cleanup.proofs.Plans.{planned-right, right-open}
 use Rattle.anf_cleanup.proofs.Rules.{absorption-none, absorption-apart, absorption-tree}
 use Rattle.postfix.specs.Written.{Room, Writes}
 use Rattle.postfix.specs.declared.Cursor.{Cursor}
 use Rattle.postfix.proofs.Writes.{room-of, writes-of}
-use Rattle.compiler.specs.Emitted.{Due}
+use Rattle.compiler.specs.Emitted.{Meant, Due}
 
 pub digit-is : (b : Bool) (d : ℕ) → d ≡ digit b → eqb d 1 ≡ b
 digit-is true d e = ap (λ (x : ℕ). eqb x 1) e
 digit-is false d e = ap (λ (x : ℕ). eqb x 1) e
 
--- ---- a plan's choice
+-- ---- a choice that is right for its form
 
-module _ (l : List ℕ) (p : Plan) (h : Planned l (cleanup l) p) (c : Choice) (e : p .choice ≡ c) where
+module _ (l : List ℕ) (d : Choice) (i r : Choice) (h : Meant d l i r) (c : Choice) (e : d ≡ c) where
   makes : built c l ≡ cleanup l
-  makes = ap (λ (x : Choice). built x l) (sym e) ∙ h .makes
+  makes = ap (λ (x : Choice). built x l) (sym e) ∙ h .right .makes
 
-  pub planned-due : {a : Cursor} {out : List ℕ} → Room (write (cleanup l)) a out → Due c l a out
-  planned-due r = record { allowed = subst (λ (x : Choice). Allowed x l) e (h .allowed); room = room-of (sym makes) r }
+  pub meant-due : {a : Cursor} {out : List ℕ} → Room (write (cleanup l)) a out → Due c l a out
+  meant-due room = record { allowed = subst (λ (x : Choice). Allowed x l) e (h .right .allowed); room = room-of (sym makes) room }
 
-  pub planned-writes : {a b : Cursor} {out after : List ℕ} → Writes (built c l) a b out after → Writes (cleanup l) a b out after
-  planned-writes w = writes-of makes w
+  pub meant-parts : Parts c l i r
+  meant-parts = subst (λ (x : Choice). Parts x l i r) e (h .parts)
+
+  pub meant-writes : {a b : Cursor} {out after : List ℕ} → Writes (built c l) a b out after → Writes (cleanup l) a b out after
+  meant-writes w = writes-of makes w
+
+pub planned-meant : (l : List ℕ) (p : Plan) → Planned l (cleanup l) p → Meant (p .choice) l (p .inner) (p .rest)
+planned-meant l p h = record { right = planned-right l p h; parts = h .parts }
+
+-- a part that is right is meant, with its own parts left open
+pub part-meant : (l : List ℕ) (c : Choice) → Right c l → Meant c l Open Open
+part-meant l c h = record { right = h; parts = go c }
+  where
+    go : (d : Choice) → Parts d l Open Open
+    go Constant = tt
+    go Family = tt
+    go Raw = tt
+    go (Partial m) = right-open _
+    go (Cube m) = (right-open _, right-open _)
+    go Absorption = tt
+    go Open = tt
+
+pub rank-le : (c : Choice) → rank c ≤ 1
+rank-le Constant = omega arith
+rank-le Family = omega arith
+rank-le Raw = omega arith
+rank-le (Partial m) = omega arith
+rank-le (Cube m) = omega arith
+rank-le Absorption = omega arith
+rank-le Open = omega arith
 
 pub places-few : (w : ℕ) → length (places 64 w) ≤ 64
 unfolding places

@@ -1,42 +1,43 @@
-// Writing a plan: what its choice makes of the form, as postfix records at a cursor. The forms that a choice leaves to clean are planned anew and
-// written the same way; their total literals fall.
+// Writing a choice: what it makes of the form, as postfix records at a cursor. The forms that it leaves to clean are written the same way, by the choices
+// that the plan has for them, and where a choice is left open the form is planned anew. Their total literals fall.
 use anf_cleanup::Choice;
-use anf_cleanup::Plan;
 use form::Form;
 use postfix::Cursor;
 ghost use mathlib.Core.Path.{_≡_};
-ghost use Rattle.anf_cleanup.specs.Plan.{built, Planned};
+ghost use Rattle.anf_cleanup.specs.Plan.{built, Parts};
 ghost use Rattle.form.specs.Masks.{masks, familyWords, supersetWords};
 ghost use Rattle.postfix.specs.Written.{Room, Writes};
 ghost use Rattle.rules.specs.Cleanup as paper;
 ghost use Rattle.rules.specs.Tree.{write};
-ghost use Rattle.compiler.specs.Emitted.{Due};
+ghost use Rattle.compiler.specs.Emitted.{Due, Meant};
 
-// The cleaned form, by its plan.
+// The cleaned form, by a choice that is right for it and choices that are right for its parts.
 pub fn emit(
     form: Form,
-    plan: Plan,
+    choice: Choice,
+    inner: Choice,
+    rest: Choice,
     families: &[u64; 64],
     supersets: &[u64; 64],
     out: &mut [u8],
     at: Cursor,
 ) -> Cursor
-    requires { ⌜ (Planned (masks form) (paper.cleanup (masks form)) plan) × (now families ≡ familyWords) × (now supersets ≡ supersetWords) × Room (write (paper.cleanup (masks form))) at (now out) ⌝ }
+    requires { ⌜ Meant choice (masks form) inner rest × (now families ≡ familyWords) × (now supersets ≡ supersetWords) × Room (write (paper.cleanup (masks form))) at (now out) ⌝ }
     ensures { λ r. ⌜ Writes (paper.cleanup (masks form)) at r (now (out .entry)) (now (out .exit)) ⌝ }
 {
-    let choice = plan.choice;
     match choice {
         Choice::Constant => emit_constant(form, out, at),
         Choice::Family => emit_family(form, out, at),
         Choice::Raw => emit_raw(form, out, at),
-        Choice::Partial(mask) => emit_partial(form, mask, families, supersets, out, at),
-        Choice::Cube(cube) => emit_cube(form, cube, families, supersets, out, at),
+        Choice::Partial(mask) => emit_partial(form, mask, rest, families, supersets, out, at),
+        Choice::Cube(cube) => emit_cube(form, cube, inner, rest, families, supersets, out, at),
         Choice::Absorption => emit_absorption(form, out, at),
+        Choice::Open => emit_open(form, families, supersets, out, at),
     }
 }
 
 // A form that is still to be planned.
-fn emit_cleaned(
+fn emit_open(
     form: Form,
     families: &[u64; 64],
     supersets: &[u64; 64],
@@ -47,24 +48,37 @@ fn emit_cleaned(
     ensures { λ r. ⌜ Writes (paper.cleanup (masks form)) at r (now (out .entry)) (now (out .exit)) ⌝ }
 {
     let plan = anf_cleanup::cleanup(form, form.raw_cost(), families, supersets);
-    emit(form, plan, families, supersets, out, at)
+    let choice = plan.choice;
+    let inner = plan.inner;
+    let rest = plan.rest;
+    emit(form, choice, inner, rest, families, supersets, out, at)
 }
 
 // Rule 2: the chain of the mask in XO with the cleaned remainder.
 fn emit_partial(
     form: Form,
     mask: usize,
+    chosen: Choice,
     families: &[u64; 64],
     supersets: &[u64; 64],
     out: &mut [u8],
     at: Cursor,
 ) -> Cursor
-    requires { ⌜ (now families ≡ familyWords) × (now supersets ≡ supersetWords) × Due (Choice.Partial mask) (masks form) at (now out) ⌝ }
+    requires { ⌜ (now families ≡ familyWords) × (now supersets ≡ supersetWords) × Due (Choice.Partial mask) (masks form) at (now out) × Parts (Choice.Partial mask) (masks form) Choice.Open chosen ⌝ }
     ensures { λ r. ⌜ Writes (built (Choice.Partial mask) (masks form)) at r (now (out .entry)) (now (out .exit)) ⌝ }
 {
     let chain = postfix::put_or_chain(mask, out, at);
     let rest = form.without(mask, families);
-    let both = emit_cleaned(rest, families, supersets, out, chain);
+    let both = emit(
+        rest,
+        chosen,
+        Choice::Open,
+        Choice::Open,
+        families,
+        supersets,
+        out,
+        chain,
+    );
     postfix::put_mark(b'X', b'O', out, both)
 }
 
@@ -72,23 +86,43 @@ fn emit_partial(
 fn emit_cube(
     form: Form,
     cube: usize,
+    stripped: Choice,
+    chosen: Choice,
     families: &[u64; 64],
     supersets: &[u64; 64],
     out: &mut [u8],
     at: Cursor,
 ) -> Cursor
-    requires { ⌜ (now families ≡ familyWords) × (now supersets ≡ supersetWords) × Due (Choice.Cube cube) (masks form) at (now out) ⌝ }
+    requires { ⌜ (now families ≡ familyWords) × (now supersets ≡ supersetWords) × Due (Choice.Cube cube) (masks form) at (now out) × Parts (Choice.Cube cube) (masks form) stripped chosen ⌝ }
     ensures { λ r. ⌜ Writes (built (Choice.Cube cube) (masks form)) at r (now (out .entry)) (now (out .exit)) ⌝ }
 {
     let product = postfix::put_product(cube, out, at);
     let inner = form.stripped(cube, supersets);
-    let both = emit_cleaned(inner, families, supersets, out, product);
+    let both = emit(
+        inner,
+        stripped,
+        Choice::Open,
+        Choice::Open,
+        families,
+        supersets,
+        out,
+        product,
+    );
     let factored = postfix::put_mark(b'A', b'N', out, both);
     let rest = form.uncovered(cube, supersets);
     if rest.is_empty() {
         return factored;
     }
-    let all = emit_cleaned(rest, families, supersets, out, factored);
+    let all = emit(
+        rest,
+        chosen,
+        Choice::Open,
+        Choice::Open,
+        families,
+        supersets,
+        out,
+        factored,
+    );
     postfix::put_mark(b'X', b'O', out, all)
 }
 

@@ -60,7 +60,19 @@ pub fn build_anf_expr(flags: usize, table: &[u64], out: &mut [u8]) -> Compilatio
         place: 0,
         records: 0,
     };
-    let end = emit::emit(form, plan, &families, &supersets, &mut bytes, start);
+    let choice = plan.choice;
+    let inner = plan.inner;
+    let rest = plan.rest;
+    let end = emit::emit(
+        form,
+        choice,
+        inner,
+        rest,
+        &families,
+        &supersets,
+        &mut bytes,
+        start,
+    );
     if out.len() < end.place {
         return refused(SHORT_OUTPUT, end.place);
     }

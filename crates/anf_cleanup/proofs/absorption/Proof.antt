@@ -1,12 +1,16 @@
 -- `anf_cleanup::absorption` meets its contract: rule 4 has a candidate just where the form has two monomials and the first is a subset of the second
 -- (Rules), and then its cost is that of both products and of NO and AN, and 2 more with constant 1 (Plans). Assumes nothing.
-use mathlib.Core.Path.{_∙_}
+use mathlib.Core.Path.{_≡_, refl, _∙_}
+use Prim.Native.Nat.{_+_, _*_}
 use native.Mathlib.Omega.{arith}
 use borrow.Author.Needs.{needs}
 use Rattle.rules.specs.Monomial.{constant}
+use Rattle.rules.specs.Tree.{cost}
 use Rattle.form.specs.Masks.{masks}
+use Rattle.anf_cleanup.specs.Plan.{built}
+use Rattle.anf_cleanup.specs.declared.Choice.the-variants.{Absorption}
 use Rattle.anf_cleanup.proofs.Bounds.{digit-le, pair-bounds, pair-limit}
-use Rattle.anf_cleanup.proofs.Plans.{improved-none, improved-one, cost-absorption}
+use Rattle.anf_cleanup.proofs.Plans.{improved-none, improved-one, improved-kept, cost-absorption}
 use Rattle.anf_cleanup.proofs.Rules.{absorption-none, absorption-apart, absorption-some}
 use Rattle.anf_cleanup.proofs.absorption.Statement.{statement}
 use Rattle.anf_cleanup.proofs.absorption.Tie as tie
@@ -50,19 +54,33 @@ add-cost-3 c =
     let form = paired .before .before .before .args .form in
     omega (arith, digit-le (constant (masks form)), pair-limit (form .word) _ _ (paired .pair .ensures))
 
-cheaper-requires : tie.Need-cheaper-requires
-cheaper-requires c κs = search needs
+candidate : (c : tie.After-constant)
+    → (let second = c .before in
+    let first = second .before in
+    first .product-cost .result + second .product-cost2 .result + 2 + 2 * c .constant .result
+    ≡ cost (built Absorption (masks (first .before .before .before .before .before .args .form))))
+candidate c =
+    let second = c .before in
+    let first = second .before in
+    let tested = first .before in
+    cost-absorption _ _ _ _ _ _ (tested .before .pair .ensures) (tested .if2 .left) (first .product-cost .ensures) (second .product-cost2 .ensures)
+    (c .constant .ensures)
 
 returns-3 : tie.Need-returns-3
 returns-3 c =
-    let costed = c .before in
-    let second = costed .before in
-    let first = second .before in
-    let tested = first .before in
-    let e = tested .before .pair .ensures in
-    let h = tested .if2 .left in
-    improved-one _ _ _ (cost-absorption _ _ _ _ _ _ e h (first .product-cost .ensures) (second .product-cost2 .ensures) (costed .constant .ensures)) _ _ _
-    (absorption-some _ _ _ e h) (c .cheaper .ensures) (absorption-some _ _ _ e h)
+    let costed = c .before .before in
+    let tested = costed .before .before .before in
+    improved-kept _ _ _ _ _ (absorption-some _ _ _ (tested .before .pair .ensures) (tested .if2 .left)) (candidate costed) (c .if3 .taken)
+
+whole-requires : tie.Need-whole-requires
+whole-requires c κs = search needs
+
+returns-4 : tie.Need-returns-4
+returns-4 c =
+    let costed = c .before .before .before in
+    let tested = costed .before .before .before in
+    let some = absorption-some _ _ _ (tested .before .pair .ensures) (tested .if2 .left) in
+    improved-one _ _ _ _ _ _ (c .whole .ensures) (candidate costed) some refl tt _ _ some (c .before .if3 .left)
 
 pub absorption-spec : {M : Type 1} → statement M
 absorption-spec =
@@ -80,5 +98,6 @@ absorption-spec =
     constant-requires
     mul-cost
     add-cost-3
-    cheaper-requires
-    returns-3)
+    returns-3
+    whole-requires
+    returns-4)

@@ -10,6 +10,7 @@ use Rattle.rules.specs.Calls.{tableForm}
 use Rattle.rules.specs.Cleanup.{cleanup}
 use Rattle.rules.specs.Limits.{ruleFlags, byteLimit}
 use Rattle.rules.specs.Tree.{write}
+use Rattle.compiler.proofs.Choices.{planned-meant}
 use Rattle.compiler.proofs.TableForm.{table-form, table-room}
 use Rattle.compiler.proofs.Told.{Made, made, told-flags, told-table, told-room, told-expression}
 use Rattle.compiler.proofs.build_anf_expr.Statement.{statement}
@@ -77,7 +78,7 @@ emit-requires c κs =
     let k = c .before .before .before in
     let w = k .before .before .before .before in
     let u = w .before .before in
-    (k .cleanup .ensures, u .before .families .ensures, u .supersets .ensures, record { fits = omega (arith, fits w); records = omega arith })
+    (planned-meant _ _ (k .cleanup .ensures), u .before .families .ensures, u .supersets .ensures, record { fits = omega (arith, fits w); records = omega arith })
 
 -- the expression in the call's own buffer
 module _ (e : tie.After-emit) where
@@ -88,7 +89,7 @@ module _ (e : tie.After-emit) where
   cleaned = e .before .before .before .before
 
   written : (let s = start word in
-      Made (s .args .flags) (s .args .table .now) (e .emit .result) (e .emit .last .1 .1 .1 .1 .0) (cleaned .cleanup .result .cost) (cleaned .before .before .before .raw-cost .result))
+      Made (s .args .flags) (s .args .table .now) (e .emit .result) (e .emit .last .1 .1 .1 .1 .1 .1 .0) (cleaned .cleanup .result .cost) (cleaned .before .before .before .raw-cost .result))
   written =
       made (start word .args .flags) (start word .args .table .now) _ (form-is word) _ _ (replicate 963 0) _ _ (cleaned .cleanup .ensures) (e .emit .ensures) (fits word)
       (cleaned .before .before .before .raw-cost .ensures)
@@ -108,7 +109,7 @@ slice-aggregate-copy c = search needs
 copy-requires : tie.Need-copy-requires
 copy-requires c κs =
     let e = c .before .before .before .before .before in
-    (omega (arith, e .emit .ensures .place, e .emit .kept .1 .1 .1 .1 .0, fits (word e)), omega arith)
+    (omega (arith, e .emit .ensures .place, e .emit .kept .1 .1 .1 .1 .1 .1 .0, fits (word e)), omega arith)
 
 same-length : tie.Need-same-length
 same-length c = search needs

@@ -22,11 +22,11 @@ use Rattle.anf_cleanup.proofs.try_cube.Reads as try-cube
 use Rattle.anf_cleanup.proofs.try_cube.Kinds as try-cube-kinds
 use Rattle.anf_cleanup.proofs.+best_cube+cleanup+common_cube+partial_or+try_cube.Lts-try_cube as try-cube-lts
 use Rattle.anf_cleanup.proofs.absorption.Reads as absorption-reads
-use Rattle.anf_cleanup.proofs.better.Reads as better-reads
 use Rattle.anf_cleanup.proofs.chain_cost.Reads as chain-cost-reads
-use Rattle.anf_cleanup.proofs.cheaper.Reads as cheaper-reads
+use Rattle.anf_cleanup.proofs.factored.Reads as factored-reads
 use Rattle.anf_cleanup.proofs.gross_saving.Reads as gross-saving-reads
 use Rattle.anf_cleanup.proofs.least_cost.Reads as least-cost-reads
+use Rattle.anf_cleanup.proofs.whole.Reads as whole-reads
 use Rattle.form.proofs.Form.constant.Reads as constant-reads
 use Rattle.form.proofs.Form.count.Reads as count-reads
 use Rattle.form.proofs.Form.flags.Reads as flags-reads
@@ -101,6 +101,8 @@ abbrev pub cleanup-calls : ℕ → cleanup-lts.Claims
 cleanup-calls t = (
   count-reads.Asked,
   count-reads.Learnt,
+  whole-reads.Asked,
+  whole-reads.Learnt,
   is-family-reads.Asked,
   is-family-reads.Learnt,
   singles-reads.Asked,
@@ -127,8 +129,8 @@ common-cube-calls t = (
   uncovered-reads.Learnt,
   is-empty-reads.Asked,
   is-empty-reads.Learnt,
-  cheaper-reads.Asked,
-  cheaper-reads.Learnt,
+  factored-reads.Asked,
+  factored-reads.Learnt,
   raw-cost-reads.Asked,
   raw-cost-reads.Learnt,
   cleanup-below t,
@@ -147,8 +149,6 @@ partial-or-calls t = (
   cleanup.Post,
   chain-cost-reads.Asked,
   chain-cost-reads.Learnt,
-  cheaper-reads.Asked,
-  cheaper-reads.Learnt,
 )
 
 abbrev pub try-cube-calls : ℕ → try-cube-lts.Claims
@@ -165,6 +165,4 @@ try-cube-calls t = (
   least-cost-reads.Learnt,
   cleanup-below t,
   cleanup.Post,
-  better-reads.Asked,
-  better-reads.Learnt,
 )

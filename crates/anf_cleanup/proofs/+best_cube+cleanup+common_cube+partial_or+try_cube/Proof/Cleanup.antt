@@ -19,8 +19,13 @@ module _ (t : ℕ) where
   count-requires : lts.Need-count-requires (calls t) (at t) reads.Post
   count-requires c κs = tt
 
+  whole-requires : lts.Need-whole-requires (calls t) (at t) reads.Post
+  whole-requires c κs = tt
+
   returns : lts.Need-returns (calls t) (at t) reads.Post
-  returns c = planned-chosen _ Constant _ (cost-constant _) _ (cleanup-constant _ (sym (c .before .count .ensures) ∙ c .if1 .taken)) tt
+  returns c =
+      let none = c .before in
+      planned-chosen _ Constant _ _ _ _ (c .whole .ensures) (cost-constant _) tt refl tt _ (cleanup-constant _ (sym (none .before .count .ensures) ∙ none .if1 .taken))
 
   is-family-requires : lts.Need-is-family-requires (calls t) (at t) reads.Post
   is-family-requires c κs = c .before .before .pre .1 .1
@@ -37,23 +42,30 @@ module _ (t : ℕ) where
   constant-requires : lts.Need-constant-requires (calls t) (at t) reads.Post
   constant-requires c κs = tt
 
-  mul-t16 : lts.Need-mul-t16 (calls t) (at t) reads.Post
-  mul-t16 c = omega (arith, digit-le (constant (masks (c .before .before .before .before .before .before .before .args .form))))
+  mul-whole : lts.Need-mul-whole (calls t) (at t) reads.Post
+  mul-whole c = omega (arith, digit-le (constant (masks (c .before .before .before .before .before .before .before .args .form))))
 
-  add-t17 : lts.Need-add-t17 (calls t) (at t) reads.Post
-  add-t17 c =
+  add-whole : lts.Need-add-whole (calls t) (at t) reads.Post
+  add-whole c =
       let single = c .before .before in
       let form = single .before .before .before .before .before .args .form in
       omega (arith, digit-le (constant (masks form)), chain-limit (single .singles .result) (omega (arith, singles-lt (form .word))))
 
+  whole-requires-2 : lts.Need-whole-requires-2 (calls t) (at t) reads.Post
+  whole-requires-2 c κs = tt
+
   returns-2 : lts.Need-returns-2 (calls t) (at t) reads.Post
   returns-2 c =
-      let single = c .before .before in
+      let plus = c .before in
+      let single = plus .before .before in
       let taken = single .before in
       let counted = taken .before .before in
       let whole = sym (taken .before .is-family .ensures) ∙ taken .if2 .taken in
-      planned-chosen _ Family _ (cost-family _ _ _ _ (single .singles .ensures) (c .before .chain-cost .ensures) (c .constant .ensures)) _
-      (cleanup-family _ (λ e. counted .if1 .left (counted .before .count .ensures ∙ e)) whole) whole
+      planned-chosen _ Family _ _ _ _ (c .whole2 .ensures) (cost-family _ _ _ _ (single .singles .ensures) (plus .before .chain-cost .ensures) (plus .constant .ensures))
+      whole refl tt _ (cleanup-family _ (λ e. counted .if1 .left (counted .before .count .ensures ∙ e)) whole)
+
+  whole-requires-3 : lts.Need-whole-requires-3 (calls t) (at t) reads.Post
+  whole-requires-3 c κs = tt
 
   partial-or-requires : lts.Need-partial-or-requires (calls t) (at t) reads.Post
   partial-or-requires c κs = search needs
@@ -67,13 +79,16 @@ module _ (t : ℕ) where
   returns-3 : lts.Need-returns-3 (calls t) (at t) reads.Post
   returns-3 c =
       let second = c .before .before in
-      let left = second .before in
+      let raw = second .before in
+      let left = raw .before in
       let counted = left .before .before in
       let start = counted .before .before in
       planned-contest _ _ _ _ _ (λ e. counted .if1 .left (counted .before .count .ensures ∙ e)) (sym (left .before .is-family .ensures) ∙ left .if2 .left)
-      (planned-chosen _ Raw _ (cost-raw _ _ (start .pre .1 .0)) _ refl tt) (second .partial-or .ensures) (c .before .common-cube .ensures) (c .absorption .ensures)
+      (planned-chosen _ Raw _ _ _ _ (raw .whole3 .ensures) (cost-raw _ _ (start .pre .1 .0)) tt refl tt _ refl) (second .partial-or .ensures)
+      (c .before .common-cube .ensures) (c .absorption .ensures)
 
   pub spec : {M : Type 1} → lts.Closed (calls t) (at t) reads.Post M
   spec =
-      lts.spec (calls t) (at t) reads.Post count-requires returns is-family-requires singles-requires chain-cost-requires constant-requires
-      mul-t16 add-t17 returns-2 partial-or-requires common-cube-requires absorption-requires returns-3
+      lts.spec (calls t) (at t) reads.Post count-requires whole-requires returns is-family-requires singles-requires chain-cost-requires
+      constant-requires mul-whole add-whole whole-requires-2 returns-2 whole-requires-3 partial-or-requires common-cube-requires
+      absorption-requires returns-3

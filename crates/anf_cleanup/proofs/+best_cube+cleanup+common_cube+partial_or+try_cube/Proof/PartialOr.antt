@@ -1,11 +1,16 @@
 -- `anf_cleanup::partial_or`, a member of the cycle: rule 2 has a candidate just where a family is found (Rules), and it costs the chain, the cleaned
 -- remainder and 1 (Plans). The remainder has fewer literals (Candidates). Assumes nothing.
-use Prim.Native.Nat.{ℕ}
+use mathlib.Core.Path.{_≡_, refl, subst}
+use Prim.Native.Nat.{ℕ, _+_}
 use native.Mathlib.Omega.{arith}
+use Rattle.rules.specs.Tree.{cost}
+use Rattle.form.specs.Masks.{masks}
+use Rattle.anf_cleanup.specs.Plan.{built, Right}
+use Rattle.anf_cleanup.specs.declared.Choice.the-variants.{Partial}
 use Rattle.anf_cleanup.proofs.Bounds.{cleanup-limit}
 use Rattle.anf_cleanup.proofs.Candidates.{family-fewer, family-limit}
 use Rattle.anf_cleanup.proofs.Rules.{partialOr-none, partialOr-some}
-use Rattle.anf_cleanup.proofs.Plans.{improved-none, improved-one, cost-partial}
+use Rattle.anf_cleanup.proofs.Plans.{improved-none, improved-one, improved-kept, planned-right, cost-partial}
 use Rattle.anf_cleanup.proofs.partial_or.Reads as reads
 use Rattle.anf_cleanup.proofs.+best_cube+cleanup+common_cube+partial_or+try_cube.Lts-partial_or as lts
 use Rattle.anf_cleanup.proofs.+best_cube+cleanup+common_cube+partial_or+try_cube.Proof.Claims.{partial-or-at as at, partial-or-calls as calls}
@@ -37,8 +42,8 @@ module _ (t : ℕ) where
       let found = c .before .before .before .before in
       omega (arith, family-limit (found .before .args .form .word) _ (found .best-family .ensures) (omega arith))
 
-  add-cheaper : lts.Need-add-cheaper (calls t) (at t) reads.Post
-  add-cheaper c =
+  add-cost : lts.Need-add-cost (calls t) (at t) reads.Post
+  add-cost c =
       let cleaned = c .before .before in
       let rest = cleaned .before .before in
       let found = rest .before .before in
@@ -49,8 +54,8 @@ module _ (t : ℕ) where
         cleanup-limit (rest .without .result .word),
       )
 
-  add-cheaper-2 : lts.Need-add-cheaper-2 (calls t) (at t) reads.Post
-  add-cheaper-2 c =
+  add-cost-2 : lts.Need-add-cost-2 (calls t) (at t) reads.Post
+  add-cost-2 c =
       let cleaned = c .before .before in
       let rest = cleaned .before .before in
       let found = rest .before .before in
@@ -61,19 +66,30 @@ module _ (t : ℕ) where
         cleanup-limit (rest .without .result .word),
       )
 
-  cheaper-requires : lts.Need-cheaper-requires (calls t) (at t) reads.Post
-  cheaper-requires c κs = tt
+  abbrev found : lts.After-struct-known2 (calls t) (at t) reads.Post → lts.After-best-family (calls t) (at t) reads.Post
+  found c = c .before .before .before .before .before .before .before
+
+  candidate : (c : lts.After-struct-known2 (calls t) (at t) reads.Post)
+      → (let mask = found c .best-family .result in
+      let form = masks (found c .before .args .form) in
+      c .before .before .chain-cost .result + c .before .before .before .cleanup .result .cost + 1 ≡ cost (built (Partial mask) form))
+  candidate c =
+      let chain = c .before .before in
+      cost-partial _ _ _ _ _ (chain .before .before .before .without .ensures) (chain .chain-cost .ensures) (chain .before .cleanup .ensures .costs)
 
   returns-2 : lts.Need-returns-2 (calls t) (at t) reads.Post
   returns-2 c =
-      let chain = c .before .before in
-      let cleaned = chain .before in
-      let rest = cleaned .before .before in
-      let found = rest .before .before in
-      improved-one _ _ _ (cost-partial _ _ _ _ _ (rest .without .ensures) (chain .chain-cost .ensures) (cleaned .cleanup .ensures .costs)) _ _ _
-      (partialOr-some _ _ (found .best-family .ensures) (omega arith)) (c .cheaper .ensures) (omega arith, found .best-family .ensures)
+      improved-kept _ _ _ _ _ (partialOr-some _ _ (found (c .before) .best-family .ensures) (omega arith)) (candidate (c .before)) (c .if2 .taken)
+
+  returns-3 : lts.Need-returns-3 (calls t) (at t) reads.Post
+  returns-3 c =
+      let cleaned = c .before .before .before .before in
+      let mask = found (c .before) .best-family .ensures in
+      improved-one _ _ _ _ _ _ refl (candidate (c .before)) (omega arith, mask) refl
+      (subst (Right _) (cleaned .before .before .without .ensures) (planned-right _ _ (cleaned .cleanup .ensures))) _ _ (partialOr-some _ _ mask (omega arith))
+      (c .if2 .left)
 
   pub spec : {M : Type 1} → lts.Closed (calls t) (at t) reads.Post M
   spec =
       lts.spec (calls t) (at t) reads.Post best-family-requires returns without-requires raw-cost-requires cleanup-requires chain-cost-requires
-      add-cheaper add-cheaper-2 cheaper-requires returns-2
+      add-cost add-cost-2 returns-2 returns-3

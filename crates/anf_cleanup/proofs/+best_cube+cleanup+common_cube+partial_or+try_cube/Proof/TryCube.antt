@@ -1,13 +1,15 @@
 -- `anf_cleanup::try_cube`, a member of the cycle: a mask that is no candidate leaves the best as it is, and so does one whose saving could not be the
 -- best. Any other candidate's inner form is cleaned, with fewer literals (Candidates, Saving). Assumes nothing.
 use mathlib.Core.Path.{sym, _∙_}
-use Prim.Native.Nat.{ℕ}
+use Prim.Native.Nat.{ℕ, _-_}
 use native.Mathlib.Omega.{arith}
 use borrow.Author.Tests.{not-true, not-false}
 use Rattle.bits.proofs.Word.{ascending-places}
 use Rattle.form.specs.Masks.{masks}
+use Rattle.anf_cleanup.specs.Plan.{Known}
 use Rattle.anf_cleanup.proofs.Candidates.{isCube-fewer}
-use Rattle.anf_cleanup.proofs.Saving.{Candidate, stripped-cube, inner-bounds, cost-stripped, saving-cube, tried-skipped, tried-passed}
+use Rattle.anf_cleanup.proofs.Plans.{planned-right}
+use Rattle.anf_cleanup.proofs.Saving.{Candidate, stripped-cube, inner-bounds, known-cube, tried-skipped, tried-more, tried-kept, tried-passed}
 use Rattle.anf_cleanup.proofs.try_cube.Reads as reads
 use Rattle.anf_cleanup.proofs.+best_cube+cleanup+common_cube+partial_or+try_cube.Lts-try_cube as lts
 use Rattle.anf_cleanup.proofs.+best_cube+cleanup+common_cube+partial_or+try_cube.Proof.Claims.{try-cube-at as at, try-cube-calls as calls}
@@ -53,7 +55,7 @@ module _ (t : ℕ) where
   returns-2 : lts.Need-returns-2 (calls t) (at t) reads.Post
   returns-2 c =
       let least = c .before .before in
-      tried-passed _ _ _ _ (candidate (least .before .before .before))
+      tried-passed _ _ _ (candidate (least .before .before .before)) _
       (omega (arith, c .if2 .taken, least .least-cost .ensures, least .before .gross-saving .ensures))
 
   cleanup-requires : lts.Need-cleanup-requires (calls t) (at t) reads.Post
@@ -64,23 +66,28 @@ module _ (t : ℕ) where
       let fewer = isCube-fewer _ _ (known .test) (known .nonzero) _ (known .inner) in
       (omega (arith, start .pre .0), (raw .raw-cost .ensures, start .pre .1 .0, start .pre .1 .1))
 
-  sub-better : lts.Need-sub-better (calls t) (at t) reads.Post
-  sub-better c =
+  sub-saving : lts.Need-sub-saving (calls t) (at t) reads.Post
+  sub-saving c =
       let gross = c .before .before .before .before .before in
       omega (arith, c .before .cleanup .ensures .costs, gross .gross-saving .ensures, inner-bounds _ _ _ (candidate (gross .before .before)))
 
-  better-requires : lts.Need-better-requires (calls t) (at t) reads.Post
-  better-requires c κs = tt
+  known : (c : lts.After-cleanup (calls t) (at t) reads.Post)
+      → (let gross = c .before .before .before .before in
+      let start = gross .before .before .before .before .before in
+      let plan = c .cleanup .result in
+      Known (masks (start .args .form)) (record { cube = start .args .cube; saving = gross .gross-saving .result - plan .cost; inner = plan .cost; choice = plan .choice }))
+  known c =
+      let gross = c .before .before .before .before in
+      let plan = c .cleanup .ensures in
+      known-cube _ _ _ (candidate (gross .before .before)) _ _ _ (gross .gross-saving .ensures) (plan .costs) (planned-right _ _ plan)
 
   returns-3 : lts.Need-returns-3 (calls t) (at t) reads.Post
-  returns-3 c =
-      let cleaned = c .before .before in
-      let gross = cleaned .before .before .before .before in
-      let known = candidate (gross .before .before) in
-      let costs = cleaned .cleanup .ensures .costs in
-      c .better .ensures _ (known .test) (saving-cube _ _ _ known _ _ (gross .gross-saving .ensures) costs) (cost-stripped _ _ _ known _ costs)
+  returns-3 c = tried-kept _ _ _ (known (c .before .before .before)) (c .if3 .taken)
+
+  returns-4 : lts.Need-returns-4 (calls t) (at t) reads.Post
+  returns-4 c = tried-more _ _ _ (known (c .before .before .before)) (c .if3 .left)
 
   pub spec : {M : Type 1} → lts.Closed (calls t) (at t) reads.Post M
   spec =
       lts.spec (calls t) (at t) reads.Post is-cube-requires returns stripped-requires raw-cost-requires gross-saving-requires least-cost-requires
-      sub-if2 returns-2 cleanup-requires sub-better better-requires returns-3
+      sub-if2 returns-2 cleanup-requires sub-saving returns-3 returns-4

@@ -1,7 +1,7 @@
 -- `compiler::emit::emit_partial`, a member of the cycle: the chain, the cleaned remainder and XO are the records of rule 2's tree (Remainders). The
 -- remainder has fewer literals (anf_cleanup, Candidates). Assumes nothing.
 use mathlib.Core.Bool.{not}
-use mathlib.Core.Path.{_≡_, sym}
+use mathlib.Core.Path.{_≡_, sym, subst}
 use Prim.Native.Nat.{ℕ}
 use native.Mathlib.Omega.{arith}
 use borrow.Author.Needs.{needs}
@@ -11,15 +11,16 @@ use Rattle.rules.specs.Cleanup.{cleanup, family}
 use Rattle.rules.specs.Form as raw
 use Rattle.rules.specs.Tree.{Tree, XO, write}
 use Rattle.form.specs.Masks.{masks}
-use Rattle.anf_cleanup.specs.Plan.{built}
+use Rattle.anf_cleanup.specs.Plan.{built, Right}
 use Rattle.anf_cleanup.specs.declared.Choice.the-variants.{Partial}
 use Rattle.anf_cleanup.proofs.Candidates.{family-fewer, family-limit}
 use Rattle.postfix.specs.Written.{Room}
 use Rattle.postfix.proofs.Writes.{room-of, writes-of, xo, room-left, room-right, room-mark, writes-join}
+use Rattle.compiler.proofs.Choices.{part-meant, rank-le}
 use Rattle.compiler.proofs.Remainders.{partial-tree}
 use Rattle.compiler.proofs.emit.emit_partial.Reads as reads
-use Rattle.compiler.proofs.emit.+emit+emit_cleaned+emit_cube+emit_partial.Lts-emit_partial as lts
-use Rattle.compiler.proofs.emit.+emit+emit_cleaned+emit_cube+emit_partial.Proof.Claims.{emit-partial-at as at, emit-partial-calls as calls}
+use Rattle.compiler.proofs.emit.+emit+emit_cube+emit_open+emit_partial.Lts-emit_partial as lts
+use Rattle.compiler.proofs.emit.+emit+emit_cube+emit_open+emit_partial.Proof.Claims.{emit-partial-at as at, emit-partial-calls as calls}
 
 module _ (t : ℕ) where
   -- the chain and the cleaned remainder, joined by XO
@@ -49,21 +50,22 @@ module _ (t : ℕ) where
       let a = s .pre .1 .2 .allowed in
       (s .pre .1 .0, family-limit (s .args .form .word) _ (a .1) (a .0) .0)
 
-  emit-cleaned-requires : lts.Need-emit-cleaned-requires (calls t) (at t) reads.Post
-  emit-cleaned-requires c κs =
+  emit-requires : lts.Need-emit-requires (calls t) (at t) reads.Post
+  emit-requires c κs =
       let w = c .before in
       let p = w .before .before .before in
       let s = p .before .before .before in
       let a = s .pre .1 .2 .allowed in
       let fewer = family-fewer _ _ (a .1) (a .0) _ (w .without .ensures) in
-      (omega (arith, s .pre .0), (s .pre .1 .0, s .pre .1 .1, room-right xo (chain s) (rest w) (p .put-or-chain .ensures) (room-partial w)))
+      let part = part-meant _ _ (subst (Right _) (sym (w .without .ensures)) (s .pre .1 .3)) in
+      (omega (arith, s .pre .0, rank-le (s .args .chosen)), (part, s .pre .1 .0, s .pre .1 .1, room-right xo (chain s) (rest w) (p .put-or-chain .ensures) (room-partial w)))
 
   put-mark-requires : lts.Need-put-mark-requires (calls t) (at t) reads.Post
   put-mark-requires c κs =
       let e = c .before .before .before in
       let w = e .before .before in
       let p = w .before .before .before in
-      room-mark xo (chain (p .before .before .before)) (rest w) (p .put-or-chain .ensures) (e .emit-cleaned .ensures) (room-partial w)
+      room-mark xo (chain (p .before .before .before)) (rest w) (p .put-or-chain .ensures) (e .emit .ensures) (room-partial w)
 
   same-length : lts.Need-same-length (calls t) (at t) reads.Post
   same-length c = search needs
@@ -74,8 +76,8 @@ module _ (t : ℕ) where
       let e = r .before .before .before .before in
       let w = e .before .before in
       let p = w .before .before .before in
-      writes-of (both w) (writes-join xo (chain (p .before .before .before)) (rest w) (p .put-or-chain .ensures) (e .emit-cleaned .ensures) (r .put-mark .ensures))
+      writes-of (both w) (writes-join xo (chain (p .before .before .before)) (rest w) (p .put-or-chain .ensures) (e .emit .ensures) (r .put-mark .ensures))
 
   pub spec : {M : Type 1} → lts.Closed (calls t) (at t) reads.Post M
   spec =
-      lts.spec (calls t) (at t) reads.Post put-or-chain-requires without-requires emit-cleaned-requires put-mark-requires same-length returns
+      lts.spec (calls t) (at t) reads.Post put-or-chain-requires without-requires emit-requires put-mark-requires same-length returns

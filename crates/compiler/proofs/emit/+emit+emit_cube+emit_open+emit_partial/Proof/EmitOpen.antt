@@ -1,10 +1,12 @@
--- `compiler::emit::emit_cleaned`, a member of the cycle: the plan that the cleanup answers is written. Assumes nothing.
+-- `compiler::emit::emit_open`, a member of the cycle: the plan that the cleanup answers is written; its choice
+-- is not left open. Assumes nothing.
 use Prim.Native.Nat.{ℕ}
 use native.Mathlib.Omega.{arith}
 use borrow.Author.Needs.{needs}
-use Rattle.compiler.proofs.emit.emit_cleaned.Reads as reads
-use Rattle.compiler.proofs.emit.+emit+emit_cleaned+emit_cube+emit_partial.Lts-emit_cleaned as lts
-use Rattle.compiler.proofs.emit.+emit+emit_cleaned+emit_cube+emit_partial.Proof.Claims.{emit-cleaned-at as at, emit-cleaned-calls as calls}
+use Rattle.compiler.proofs.Choices.{planned-meant}
+use Rattle.compiler.proofs.emit.emit_open.Reads as reads
+use Rattle.compiler.proofs.emit.+emit+emit_cube+emit_open+emit_partial.Lts-emit_open as lts
+use Rattle.compiler.proofs.emit.+emit+emit_cube+emit_open+emit_partial.Proof.Claims.{emit-open-at as at, emit-open-calls as calls}
 
 module _ (t : ℕ) where
   raw-cost-requires : lts.Need-raw-cost-requires (calls t) (at t) reads.Post
@@ -16,7 +18,8 @@ module _ (t : ℕ) where
   emit-requires : lts.Need-emit-requires (calls t) (at t) reads.Post
   emit-requires c κs =
       let s = c .before .before .before .before in
-      (omega (arith, s .pre .0), (c .before .cleanup .ensures, s .pre .1 .0, s .pre .1 .1, s .pre .1 .2))
+      let plan = c .before .cleanup .ensures in
+      (omega (arith, s .pre .0, plan .closed), (planned-meant _ _ plan, s .pre .1 .0, s .pre .1 .1, s .pre .1 .2))
 
   same-length : lts.Need-same-length (calls t) (at t) reads.Post
   same-length c = search needs

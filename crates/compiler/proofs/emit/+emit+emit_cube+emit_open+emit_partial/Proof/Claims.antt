@@ -1,23 +1,24 @@
 -- What the cycle's proof is stated over: each member's measure, its contract at a measure and below one, and what its callees ask and tell.
--- The measure is three times the form's total literals and a rank within one form: a form is planned, then its choice is written, and that goes by
--- the rule's own function. Assumes nothing.
+-- The measure is four times the form's total literals and a rank within one form: a form with its choice left open is planned, then its choice is written,
+-- and that goes by the rule's own function. Assumes nothing.
 use Prim.Native.Nat.{ℕ, _+_, _*_, _<_}
 use Rattle.rules.specs.Form.{literals}
 use Rattle.form.specs.Masks.{masks}
+use Rattle.anf_cleanup.specs.Plan.{rank}
 use borrow.Fn.Kinds.{In}
 use borrow.Fn.PlainCycle.{Measures, is, falls, and}
 use Rattle.compiler.proofs.emit.emit.Reads as emit
 use Rattle.compiler.proofs.emit.emit.Kinds as emit-kinds
-use Rattle.compiler.proofs.emit.+emit+emit_cleaned+emit_cube+emit_partial.Lts-emit as emit-lts
-use Rattle.compiler.proofs.emit.emit_cleaned.Reads as emit-cleaned
-use Rattle.compiler.proofs.emit.emit_cleaned.Kinds as emit-cleaned-kinds
-use Rattle.compiler.proofs.emit.+emit+emit_cleaned+emit_cube+emit_partial.Lts-emit_cleaned as emit-cleaned-lts
+use Rattle.compiler.proofs.emit.+emit+emit_cube+emit_open+emit_partial.Lts-emit as emit-lts
+use Rattle.compiler.proofs.emit.emit_open.Reads as emit-open
+use Rattle.compiler.proofs.emit.emit_open.Kinds as emit-open-kinds
+use Rattle.compiler.proofs.emit.+emit+emit_cube+emit_open+emit_partial.Lts-emit_open as emit-open-lts
 use Rattle.compiler.proofs.emit.emit_cube.Reads as emit-cube
 use Rattle.compiler.proofs.emit.emit_cube.Kinds as emit-cube-kinds
-use Rattle.compiler.proofs.emit.+emit+emit_cleaned+emit_cube+emit_partial.Lts-emit_cube as emit-cube-lts
+use Rattle.compiler.proofs.emit.+emit+emit_cube+emit_open+emit_partial.Lts-emit_cube as emit-cube-lts
 use Rattle.compiler.proofs.emit.emit_partial.Reads as emit-partial
 use Rattle.compiler.proofs.emit.emit_partial.Kinds as emit-partial-kinds
-use Rattle.compiler.proofs.emit.+emit+emit_cleaned+emit_cube+emit_partial.Lts-emit_partial as emit-partial-lts
+use Rattle.compiler.proofs.emit.+emit+emit_cube+emit_open+emit_partial.Lts-emit_partial as emit-partial-lts
 use Rattle.anf_cleanup.proofs.cleanup.Reads as cleanup-reads
 use Rattle.compiler.proofs.emit.emit_absorption.Reads as emit-absorption-reads
 use Rattle.compiler.proofs.emit.emit_constant.Reads as emit-constant-reads
@@ -33,16 +34,16 @@ use Rattle.postfix.proofs.put_or_chain.Reads as put-or-chain-reads
 use Rattle.postfix.proofs.put_product.Reads as put-product-reads
 
 abbrev pub μ-emit : Measures 3 emit-kinds.ps ℕ
-μ-emit κs a = 3 * literals (masks (a .0)) + 1
+μ-emit κs a = 4 * literals (masks (a .0)) + 1 + 2 * rank (a .1 .0)
 
-abbrev pub μ-emit-cleaned : Measures 3 emit-cleaned-kinds.ps ℕ
-μ-emit-cleaned κs a = 3 * literals (masks (a .0)) + 2
+abbrev pub μ-emit-open : Measures 3 emit-open-kinds.ps ℕ
+μ-emit-open κs a = 4 * literals (masks (a .0)) + 2
 
 abbrev pub μ-emit-cube : Measures 3 emit-cube-kinds.ps ℕ
-μ-emit-cube κs a = 3 * literals (masks (a .0))
+μ-emit-cube κs a = 4 * literals (masks (a .0))
 
 abbrev pub μ-emit-partial : Measures 3 emit-partial-kinds.ps ℕ
-μ-emit-partial κs a = 3 * literals (masks (a .0))
+μ-emit-partial κs a = 4 * literals (masks (a .0))
 
 abbrev pub emit-at : ℕ → In 3 emit-kinds.ps
 emit-at t = and 3 emit-kinds.ps (is 3 emit-kinds.ps μ-emit t) emit.Pre
@@ -50,17 +51,17 @@ emit-at t = and 3 emit-kinds.ps (is 3 emit-kinds.ps μ-emit t) emit.Pre
 abbrev pub emit-below : ℕ → In 3 emit-kinds.ps
 emit-below t = and 3 emit-kinds.ps (falls 3 emit-kinds.ps _<_ μ-emit t) emit.Pre
 
-abbrev pub emit-cleaned-at : ℕ → In 3 emit-cleaned-kinds.ps
-emit-cleaned-at t =
-    and 3 emit-cleaned-kinds.ps (is 3 emit-cleaned-kinds.ps μ-emit-cleaned t) emit-cleaned.Pre
+abbrev pub emit-open-at : ℕ → In 3 emit-open-kinds.ps
+emit-open-at t =
+    and 3 emit-open-kinds.ps (is 3 emit-open-kinds.ps μ-emit-open t) emit-open.Pre
 
-abbrev pub emit-cleaned-below : ℕ → In 3 emit-cleaned-kinds.ps
-emit-cleaned-below t =
+abbrev pub emit-open-below : ℕ → In 3 emit-open-kinds.ps
+emit-open-below t =
     and
     3
-    emit-cleaned-kinds.ps
-    (falls 3 emit-cleaned-kinds.ps _<_ μ-emit-cleaned t)
-    emit-cleaned.Pre
+    emit-open-kinds.ps
+    (falls 3 emit-open-kinds.ps _<_ μ-emit-open t)
+    emit-open.Pre
 
 abbrev pub emit-cube-at : ℕ → In 3 emit-cube-kinds.ps
 emit-cube-at t = and 3 emit-cube-kinds.ps (is 3 emit-cube-kinds.ps μ-emit-cube t) emit-cube.Pre
@@ -97,10 +98,12 @@ emit-calls t = (
   emit-cube.Post,
   emit-absorption-reads.Asked,
   emit-absorption-reads.Learnt,
+  emit-open-below t,
+  emit-open.Post,
 )
 
-abbrev pub emit-cleaned-calls : ℕ → emit-cleaned-lts.Claims
-emit-cleaned-calls t = (
+abbrev pub emit-open-calls : ℕ → emit-open-lts.Claims
+emit-open-calls t = (
   raw-cost-reads.Asked,
   raw-cost-reads.Learnt,
   cleanup-reads.Asked,
@@ -115,8 +118,8 @@ emit-cube-calls t = (
   put-product-reads.Learnt,
   stripped-reads.Asked,
   stripped-reads.Learnt,
-  emit-cleaned-below t,
-  emit-cleaned.Post,
+  emit-below t,
+  emit.Post,
   put-mark-reads.Asked,
   put-mark-reads.Learnt,
   uncovered-reads.Asked,
@@ -131,8 +134,8 @@ emit-partial-calls t = (
   put-or-chain-reads.Learnt,
   without-reads.Asked,
   without-reads.Learnt,
-  emit-cleaned-below t,
-  emit-cleaned.Post,
+  emit-below t,
+  emit.Post,
   put-mark-reads.Asked,
   put-mark-reads.Learnt,
 )

@@ -1,6 +1,6 @@
 -- `compiler::emit::emit_cube`, a member of the cycle: the product, the cleaned inner form and AN, and where a mask is left the cleaned remainder and XO,
 -- are the records of rule 3's tree (Remainders). Both forms have fewer literals (anf_cleanup, Candidates). Assumes nothing.
-use mathlib.Core.Path.{_≡_, refl, sym, _∙_}
+use mathlib.Core.Path.{_≡_, refl, sym, subst, _∙_}
 use Prim.Native.Nat.{ℕ, _<_}
 use native.Mathlib.Omega.{arith}
 use borrow.Author.Needs.{needs}
@@ -11,16 +11,17 @@ use Rattle.rules.specs.Cleanup.{cleanup, stripped}
 use Rattle.rules.specs.Form as raw
 use Rattle.rules.specs.Tree.{Tree, AN, XO, write}
 use Rattle.form.specs.Masks.{masks}
-use Rattle.anf_cleanup.specs.Plan.{built}
+use Rattle.anf_cleanup.specs.Plan.{built, Right}
 use Rattle.anf_cleanup.specs.declared.Choice.the-variants.{Cube}
 use Rattle.anf_cleanup.proofs.Candidates.{cube-fewer, inner-fewer, cube-below}
 use Rattle.postfix.specs.Written.{Room, Writes}
 use Rattle.postfix.proofs.Put.{put-length}
 use Rattle.postfix.proofs.Writes.{room-of, writes-of, an, xo, room-left, room-right, room-mark, writes-join}
+use Rattle.compiler.proofs.Choices.{part-meant, rank-le}
 use Rattle.compiler.proofs.Remainders.{room-factored, cube-whole, cube-rest}
 use Rattle.compiler.proofs.emit.emit_cube.Reads as reads
-use Rattle.compiler.proofs.emit.+emit+emit_cleaned+emit_cube+emit_partial.Lts-emit_cube as lts
-use Rattle.compiler.proofs.emit.+emit+emit_cleaned+emit_cube+emit_partial.Proof.Claims.{emit-cube-at as at, emit-cube-calls as calls}
+use Rattle.compiler.proofs.emit.+emit+emit_cube+emit_open+emit_partial.Lts-emit_cube as lts
+use Rattle.compiler.proofs.emit.+emit+emit_cube+emit_open+emit_partial.Proof.Claims.{emit-cube-at as at, emit-cube-calls as calls}
 
 module _ (t : ℕ) where
   -- the product and the cleaned inner form, joined by AN; that is the whole tree where no mask is left
@@ -48,7 +49,7 @@ module _ (t : ℕ) where
       let e = a .before .before .before .before in
       let i = e .before .before in
       let p = i .before .before .before in
-      writes-join an (product (p .before .before .before)) (inner i) (p .put-product .ensures) (e .emit-cleaned .ensures) (a .put-mark .ensures)
+      writes-join an (product (p .before .before .before)) (inner i) (p .put-product .ensures) (e .emit .ensures) (a .put-mark .ensures)
 
   abbrev start : lts.After-uncovered (calls t) (at t) reads.Post → lts.Start (calls t) (at t) reads.Post
   start u = u .before .before .before .before .before .before .before .before .before .before .before .before .before .before .before
@@ -76,21 +77,22 @@ module _ (t : ℕ) where
       let s = c .before .before .before .before .before in
       (s .pre .1 .1, s .pre .1 .2 .allowed .0, below s)
 
-  emit-cleaned-requires : lts.Need-emit-cleaned-requires (calls t) (at t) reads.Post
-  emit-cleaned-requires c κs =
+  emit-requires : lts.Need-emit-requires (calls t) (at t) reads.Post
+  emit-requires c κs =
       let i = c .before in
       let p = i .before .before .before in
       let s = p .before .before .before in
       let a = s .pre .1 .2 .allowed in
       let fewer = inner-fewer _ _ (a .1) (a .0) _ (i .stripped .ensures) in
-      (omega (arith, s .pre .0), (s .pre .1 .0, s .pre .1 .1, room-right an (product s) (inner i) (p .put-product .ensures) (room-inner i)))
+      let part = part-meant _ _ (subst (Right _) (sym (i .stripped .ensures)) (s .pre .1 .3 .0)) in
+      (omega (arith, s .pre .0, rank-le (s .args .stripped)), (part, s .pre .1 .0, s .pre .1 .1, room-right an (product s) (inner i) (p .put-product .ensures) (room-inner i)))
 
   put-mark-requires : lts.Need-put-mark-requires (calls t) (at t) reads.Post
   put-mark-requires c κs =
       let e = c .before .before .before in
       let i = e .before .before in
       let p = i .before .before .before in
-      room-mark an (product (p .before .before .before)) (inner i) (p .put-product .ensures) (e .emit-cleaned .ensures) (room-inner i)
+      room-mark an (product (p .before .before .before)) (inner i) (p .put-product .ensures) (e .emit .ensures) (room-inner i)
 
   uncovered-requires : lts.Need-uncovered-requires (calls t) (at t) reads.Post
   uncovered-requires c κs =
@@ -124,21 +126,22 @@ module _ (t : ℕ) where
       → (let u = f .before .before in Room (write (XO (left u) (remainder u))) (start u .args .at) (now (start u .args .out)))
   room-rest f = room-of (sym (parts f)) (start (f .before .before) .pre .1 .2 .room)
 
-  emit-cleaned-requires-2 : lts.Need-emit-cleaned-requires-2 (calls t) (at t) reads.Post
-  emit-cleaned-requires-2 c κs =
+  emit-requires-2 : lts.Need-emit-requires-2 (calls t) (at t) reads.Post
+  emit-requires-2 c κs =
       let f = c .before in
       let u = f .before .before in
       let s = start u in
       let a = s .pre .1 .2 .allowed in
       let fewer = cube-fewer _ _ (a .1) (a .0) _ (u .uncovered .ensures) in
-      (omega (arith, s .pre .0), (s .pre .1 .0, s .pre .1 .1, room-right xo (left u) (remainder u) (factored (u .before .before .before)) (room-rest f)))
+      let part = part-meant _ _ (subst (Right _) (sym (u .uncovered .ensures)) (s .pre .1 .3 .1)) in
+      (omega (arith, s .pre .0, rank-le (s .args .chosen)), (part, s .pre .1 .0, s .pre .1 .1, room-right xo (left u) (remainder u) (factored (u .before .before .before)) (room-rest f)))
 
   put-mark-requires-2 : lts.Need-put-mark-requires-2 (calls t) (at t) reads.Post
   put-mark-requires-2 c κs =
       let g = c .before .before .before in
       let f = g .before .before in
       let u = f .before .before in
-      room-mark xo (left u) (remainder u) (factored (u .before .before .before)) (g .emit-cleaned2 .ensures) (room-rest f)
+      room-mark xo (left u) (remainder u) (factored (u .before .before .before)) (g .emit2 .ensures) (room-rest f)
 
   returns-2 : lts.Need-returns-2 (calls t) (at t) reads.Post
   returns-2 c =
@@ -146,12 +149,12 @@ module _ (t : ℕ) where
       let g = b .before .before .before .before in
       let f = g .before .before in
       let u = f .before .before in
-      writes-of (parts f) (writes-join xo (left u) (remainder u) (factored (u .before .before .before)) (g .emit-cleaned2 .ensures) (b .put-mark2 .ensures))
+      writes-of (parts f) (writes-join xo (left u) (remainder u) (factored (u .before .before .before)) (g .emit2 .ensures) (b .put-mark2 .ensures))
 
   same-length-2 : lts.Need-same-length-2 (calls t) (at t) reads.Post
   same-length-2 c = put-length (returns-2 c)
 
   pub spec : {M : Type 1} → lts.Closed (calls t) (at t) reads.Post M
   spec =
-      lts.spec (calls t) (at t) reads.Post put-product-requires stripped-requires emit-cleaned-requires put-mark-requires uncovered-requires
-      is-empty-requires same-length returns emit-cleaned-requires-2 put-mark-requires-2 same-length-2 returns-2
+      lts.spec (calls t) (at t) reads.Post put-product-requires stripped-requires emit-requires put-mark-requires uncovered-requires
+      is-empty-requires same-length returns emit-requires-2 put-mark-requires-2 same-length-2 returns-2
