@@ -1,4 +1,4 @@
-pub mod Flags
+pub mod Digits
 pub mod Layer
 pub mod Runs
 pub mod Told

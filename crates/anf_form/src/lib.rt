@@ -107,16 +107,14 @@ pub fn raw_cost(word: u64) -> usize
     2 * literals(word) + 2 * ((word % 2) as usize) - 1
 }
 
-// The total number of flags in the masks of a word: for each flag, how many of its masks have it.
+// The total number of flags in the masks of a word. A mask's count of ones has three binary digits: the masks that have the digit are counted for
+// each of them.
 pub fn literals(word: u64) -> usize
     ensures { λ r. ⌜ r ≡ paper.literals (places 64 word) ⌝ }
 {
-    degree::ones(word & 0xaaaa_aaaa_aaaa_aaaa)
-        + degree::ones(word & 0xcccc_cccc_cccc_cccc)
-        + degree::ones(word & 0xf0f0_f0f0_f0f0_f0f0)
-        + degree::ones(word & 0xff00_ff00_ff00_ff00)
-        + degree::ones(word & 0xffff_0000_ffff_0000)
-        + degree::ones(word & 0xffff_ffff_0000_0000)
+    degree::ones(word & 0x6996_9669_9669_6996)
+        + 2 * degree::ones(word & 0x8117_177e_177e_7ee8)
+        + 4 * degree::ones(word & 0xfee8_e880_e880_8000)
 }
 
 // All terms of the form of six flags that a word holds, at the front of `out`, by count of ones, then mask: the constant 1 is the mask 0 and comes

@@ -1,9 +1,7 @@
--- Places under a second number's test, and counting by digits: a number's ones are the total of its digits, so the ones of many numbers can be counted
--- digit by digit. It rests on the laws of words and of totals (Word, Sum). Assumes nothing.
+-- Places under a second number's test, and how many pass a test. It rests on the laws of words and of bits (Word, Bit). Assumes nothing.
 --   places-and, ones-and     == the places of w & v are those of w that pass v's test, and their number
 --   places-zero, mem-zero    == no place; place 0
 --   length-total             == how many pass a test is the total of the test's digits
---   ones-total, total-ones   == ones by digits, of one number and of the numbers of a list
 use mathlib.Core.Bool.{Bool, true, false, _&&_}
 use mathlib.Core.List.{List, [], _∷_}
 use mathlib.Core.Path.{_≡_, refl, sym, ap, _∙_}
@@ -15,13 +13,11 @@ use lib.Count.{ones}
 use lib.ListN.{length}
 use borrow.Author.Tests.{lt-ltb}
 use Rattle.bits.specs.Bit.{bit, digit}
-use Rattle.bits.specs.Range.{upto, keep, mem, Below}
+use Rattle.bits.specs.Range.{upto, keep, mem}
 use Rattle.bits.specs.Sum.{sum, total}
 use Rattle.bits.specs.Word.{places}
 use Rattle.bits.proofs.Bit.{bit-and, bit-zero}
 use Rattle.bits.proofs.Range.{keep-keep, keep-ext, keep-none, mem-all}
-use Rattle.bits.proofs.Ascending.{below-mem}
-use Rattle.bits.proofs.Sum.{plus-laws, sum-ext-mem, sum-ext, sum-swap}
 use Rattle.bits.proofs.Word.{ones-places, mem-places}
 
 pub places-and : (k w v : ℕ) → places k (bitAnd w v) ≡ keep (bit v) (places k w)
@@ -41,16 +37,6 @@ length-total {A} p (x ∷ l) = go (p x) (length-total p l)
         → length {A = A} (elim b [ true ↦ x ∷ keep p l | false ↦ keep p l ]) ≡ digit b + total (λ y. digit (p y)) l
     go true h = omega arith
     go false h = omega arith
-
-pub ones-total : (k m : ℕ) → m < 2 ^ k → ones m ≡ total (λ i. digit (bit m i)) (upto k)
-unfolding places
-ones-total k m h = ones-places k m h ∙ length-total (bit m) (upto k)
-
-pub total-ones : (k : ℕ) (l : List ℕ) → Below (2 ^ k) l → total ones l ≡ total (λ i. length (keep (λ m. bit m i) l)) (upto k)
-total-ones k l h =
-    sum-ext-mem _+_ 0 ones (λ m. total (λ i. digit (bit m i)) (upto k)) l (λ m e. ones-total k m (below-mem (2 ^ k) l m h e))
-    ∙ sum-swap plus-laws (λ m i. digit (bit m i)) l (upto k)
-    ∙ sum-ext _+_ 0 (λ i. total (λ m. digit (bit m i)) l) (λ i. length (keep (λ m. bit m i) l)) (upto k) (λ i. sym (length-total (λ m. bit m i) l))
 
 pub places-zero : (k : ℕ) → places k 0 ≡ []
 unfolding places

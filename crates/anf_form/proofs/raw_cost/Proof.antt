@@ -1,4 +1,4 @@
--- `anf_form::raw_cost` meets its contract: raw cost and 1 are twice the literals and twice the constant (Flags), which are few enough to fit.
+-- `anf_form::raw_cost` meets its contract: raw cost and 1 are twice the literals and twice the constant (Digits), which are few enough to fit.
 -- Assumes nothing.
 use mathlib.Core.Path.{sym, ap, _∙_}
 use Prim.Native.Nat.{ℕ}
@@ -6,7 +6,7 @@ use native.Mathlib.Omega.{arith}
 use borrow.Author.Needs.{needs}
 use Rattle.bits.specs.Word.{places}
 use Rattle.rules.specs.Form.{rawCost}
-use Rattle.anf_form.proofs.Flags.{literals-le, raw-none, raw-word}
+use Rattle.anf_form.proofs.Digits.{literals-le, raw-none, raw-word}
 use Rattle.anf_form.proofs.raw_cost.Statement.{statement}
 use Rattle.anf_form.proofs.raw_cost.Tie as tie
 
