@@ -115,17 +115,20 @@ module _ (l : List ℕ) (c v : ℕ) (e : places 64 v ≡ stripped c l) (h : v < 
           within-trans c m (union l) (covered-within c l m (t .1))
           (union-mem l m (and-true-l (mem m l) (ltb 0 m) (sym (mem-keep (ltb 0) l m) ∙ here)))
 
-      pub cube-single : ones c ≡ 1 → isCube l c ≡ true
-      unfolding isCube
-      cube-single o =
-          and-intro listed _ (ap (λ (b : Bool). b || leb 2 (ones c) && meets (monomials l) c) (and-intro _ _ (eq-eqb (ones c) 1 o) occurs))
-          (le-leb 2 (length (covered c l)) many)
+      module _ (k : 0 < c) (s : c < 64) where
+        pub cube-single : bitAnd c (c - 1) ≡ 0 → isCube l c ≡ true
+        unfolding isCube ones
+        cube-single z =
+            let o : ones c ≡ 1 = omega (arith, ones-clear 6 c k s, ap ones z) in
+            and-intro listed _ (ap (λ (b : Bool). b || leb 2 (ones c) && meets (monomials l) c) (and-intro _ _ (eq-eqb (ones c) 1 o) occurs))
+            (le-leb 2 (length (covered c l)) many)
 
-      pub cube-several : 0 < c → (ones c ≡ 1 → ⊥) → isCube l c ≡ meets (places 64 v) 0
-      unfolding isCube
-      cube-several k n =
-          rw (ne-eqb (ones c) 1 n, le-leb 2 (ones c) (omega (arith, ones-pos c k)), le-leb 2 (length (covered c l)) many)
-          (and-true (meets (monomials l) c) ∙ sym (ap (λ (r : List ℕ). meets r 0) e ∙ meets-stripped c l))
+        pub cube-several : 0 < bitAnd c (c - 1) → isCube l c ≡ meets (places 64 v) 0
+        unfolding isCube
+        cube-several n =
+            let o : 2 ≤ ones c = omega (arith, ones-clear 6 c k s, ones-pos (bitAnd c (c - 1)) n) in
+            rw (ne-eqb (ones c) 1 (omega arith), le-leb 2 (ones c) o, le-leb 2 (length (covered c l)) many)
+            (and-true (meets (monomials l) c) ∙ sym (ap (λ (r : List ℕ). meets r 0) e ∙ meets-stripped c l))
 
 -- ---- words
 

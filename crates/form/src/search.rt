@@ -57,7 +57,7 @@ pub fn is_cube(form: Form, cube: usize, families: &[u64; 64], supersets: &[u64; 
     if word & (word - 1) == 0 {
         return false;
     }
-    if u64::count_ones(cube as u64) == 1 {
+    if cube & (cube - 1) == 0 {
         return true;
     }
     has_disjoint(word, families)

@@ -26,12 +26,15 @@ returns-2 c =
     let a = s .before .args in
     sym (cube-one (masks (a .form)) (a .cube) (s .stripped .result .word) (s .stripped .ensures) (omega arith) (omega arith) (c .if2 .taken))
 
+sub-if3 : tie.Need-sub-if3
+sub-if3 c = search needs
+
 returns-3 : tie.Need-returns-3
 returns-3 c =
     let s = c .before .before .before in
     let a = s .before .args in
     sym (cube-single (masks (a .form)) (a .cube) (s .stripped .result .word) (s .stripped .ensures) (omega arith) (omega arith) (omega arith)
-    (c .if3 .taken))
+    (omega arith) (omega arith) (c .if3 .taken))
 
 has-disjoint-requires : tie.Need-has-disjoint-requires
 has-disjoint-requires c κs = search needs
@@ -42,7 +45,7 @@ returns-4 c =
     let a = s .before .args in
     c .has-disjoint .ensures
     ∙ sym (cube-several (masks (a .form)) (a .cube) (s .stripped .result .word) (s .stripped .ensures) (omega arith) (omega arith) (omega arith)
-    (omega arith) (c .before .if3 .left))
+    (omega arith) (omega arith) (omega arith))
 
 pub is-cube-spec : {M : Type 1} → statement M
 is-cube-spec =
@@ -52,6 +55,7 @@ is-cube-spec =
     returns
     sub-if2
     returns-2
+    sub-if3
     returns-3
     has-disjoint-requires
     returns-4)
