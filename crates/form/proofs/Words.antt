@@ -4,7 +4,8 @@
 --   constant-word, count-word                    == the constant; how many monomials there are
 --   pair-positive, pair-word                     == the two monomials of a form that has two
 --   family-word                                  == whether the form is a whole family
---   uncovered-word, without-word, stripped-word  == the masks that do not contain a cube, those outside a family, and those that contain a cube, stripped
+--   uncovered-word, without-word                 == the masks that do not contain a cube, and those outside a family
+--   covered-word, stripped-word                  == those that contain a cube, whole and stripped
 use mathlib.Core.Bool.{Bool, true, not, _&&_}
 use mathlib.Core.List.{List, [], _∷_, map}
 use mathlib.Core.Path.{_≡_, sym, ap, _∙_}
@@ -18,17 +19,16 @@ use lib.ListN.{length, getD}
 use Rattle.bits.specs.Bit.{bit, digit, within}
 use Rattle.bits.specs.Range.{keep, upto, mem, same}
 use Rattle.bits.specs.Word.{places, word}
-use Rattle.bits.proofs.Truth.{and-true-r}
-use Rattle.bits.proofs.Bit.{digit-bit, bit-lt, bit-and}
+use Rattle.bits.proofs.Bit.{digit-bit}
 use Rattle.bits.proofs.Mask.{within-le}
 use Rattle.bits.proofs.Range.{keep-ext}
 use Rattle.bits.proofs.Ascending.{below-mem}
 use Rattle.bits.proofs.Word.{below-places, ones-places}
 use Rattle.bits.proofs.Places.{places-and}
 use Rattle.bits.proofs.Sets.{mem-bit, places-and-not, places-even, places-shr, places-positive, places-two, same-places}
-use Rattle.rules.specs.Cleanup.{family, singles, isFamily, stripped}
+use Rattle.rules.specs.Cleanup.{family, singles, isFamily, covered, stripped}
 use Rattle.rules.specs.Monomial.{constant, monomials}
-use Rattle.rules.proofs.Covered.{covered-keep}
+use Rattle.rules.proofs.Covered.{covered-keep, covered-within}
 use Rattle.rules.proofs.Family.{ascending-family}
 use Rattle.form.specs.Masks.{familyWords, supersetWords}
 use Rattle.form.proofs.Entries.{getD-families, getD-supersets, bit-family, below-family, family-lt, bit-superset, superset-lt}
@@ -44,6 +44,13 @@ module _ (w : ℕ) where
         let v = word (keep (within c) (upto 64)) in
         ap (λ (x : ℕ). places 64 (bitAnd w ((2 ^ 64 - 1) - x))) (getD-supersets c k) ∙ places-and-not 64 w v (superset-lt c)
         ∙ keep-ext (λ m. not (bit v m)) (λ m. not (within c m)) (places 64 w) (λ m e. ap not (bit-superset c m (in-word m e)))
+
+    pub covered-word : 0 < c → places 64 (bitAnd w (getD supersetWords c 0)) ≡ covered c (places 64 w)
+    covered-word p =
+        let v = word (keep (within c) (upto 64)) in
+        ap (λ (x : ℕ). places 64 (bitAnd w x)) (getD-supersets c k) ∙ places-and 64 w v
+        ∙ keep-ext (bit v) (λ m. within c m) (places 64 w) (λ m e. bit-superset c m (in-word m e))
+        ∙ sym (covered-keep c p (places 64 w))
 
     pub without-word : places 64 (bitAnd w ((2 ^ 64 - 1) - getD familyWords c 0)) ≡ keep (λ m. not (mem m (family c))) (places 64 w)
     without-word =
@@ -85,11 +92,8 @@ module _ (w : ℕ) (h : w < 2 ^ 64) where
   pub stripped-word : (c : ℕ) → 0 < c → c < 64 → places 64 (bitAnd w (getD supersetWords c 0) / 2 ^ c) ≡ stripped c (places 64 w)
   unfolding stripped
   stripped-word c p k =
-      let v = word (keep (within c) (upto 64)) in
-      let s : bitAnd w v < 2 ^ 64 = lt-of-le-of-lt (and-le-l w v) h in
-      let low : (i : ℕ) → bit (bitAnd w v) i ≡ true → c ≤ i =
-      λ i e. within-le c i (sym (bit-superset c i (bit-lt 64 (bitAnd w v) i s e)) ∙ and-true-r (bit w i) (bit v i) (sym (bit-and w v i) ∙ e)) in
-      ap (λ (x : ℕ). places 64 (bitAnd w x / 2 ^ c)) (getD-supersets c k) ∙ places-shr 64 (bitAnd w v) c s low
-      ∙ ap (map (λ m. m - c))
-      (places-and 64 w v ∙ keep-ext (bit v) (λ m. within c m) (places 64 w) (λ m e. bit-superset c m (in-word w m e))
-      ∙ sym (covered-keep c p (places 64 w)))
+      let v = bitAnd w (getD supersetWords c 0) in
+      let s : v < 2 ^ 64 = lt-of-le-of-lt (and-le-l w (getD supersetWords c 0)) h in
+      places-shr 64 v c s
+      (λ i e. within-le c i (covered-within c (places 64 w) i (ap (mem i) (sym (covered-word w c k p)) ∙ mem-bit 64 v i s ∙ e)))
+      ∙ ap (map (λ m. m - c)) (covered-word w c k p)

@@ -116,6 +116,14 @@ impl Form {
         Form { word }
     }
 
+    // The total number of flags in the monomials that contain the whole cube.
+    pub fn covered_literals(self, cube: usize, supersets: &[u64; 64]) -> usize
+        requires { ⌜ (now supersets ≡ supersetWords) × (0 < cube) × (cube < 64) ⌝ }
+        ensures { λ r. ⌜ r ≡ raw.literals (paper.covered cube (masks self)) ⌝ }
+    {
+        anf_form::literals(self.word & supersets[cube])
+    }
+
     // The masks that do not contain the whole cube.
     pub fn uncovered(self, cube: usize, supersets: &[u64; 64]) -> Form
         requires { ⌜ (now supersets ≡ supersetWords) × (cube < 64) ⌝ }
