@@ -5,3 +5,4 @@ pub mod Chosen
 pub mod Saving
 pub mod Partial
 pub mod Cubes
+pub mod Shared
