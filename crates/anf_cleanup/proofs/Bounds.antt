@@ -1,8 +1,9 @@
 -- Bounds for forms in one word, so of at most six flags: their flags are below 64, and every cost is small.
 -- They rest on the cleanup's cost (rules, Size) and on the costs of parts (rules, Cost). Assumes nothing.
 --   digit-le                               == a constant is 1 at most
---   flags-below, flags-some                == the flags that occur in a form; of two masks one has a flag
+--   union-some, flags-below                == of two masks one has a flag; the flags that occur in a form are below 64
 --   raw-limit, cleanup-limit, inner-limit  == raw cost, and the cost of a cleaned form and of a cleaned inner form
+--   covered-limit                          == the literals of the monomials that contain a cube
 --   product-limit, chain-limit             == the cost of a product, and of an OR chain
 --   pair-bounds, pair-limit                == two monomials ascend, from 1 to 63; the cost of both products of an absorption
 use mathlib.Core.Bool.{Bool, true, false}
@@ -15,9 +16,9 @@ use lib.Count.{ones, ones-le}
 use lib.Dec.{ltb}
 use lib.ListN.{length}
 use borrow.Author.Tests.{ltb-true, ltb-false}
-use Rattle.bits.specs.Bit.{digit}
+use Rattle.bits.specs.Bit.{digit, within}
 use Rattle.bits.specs.Range.{mem, Ascending, Below}
-use Rattle.bits.specs.Sum.{union}
+use Rattle.bits.specs.Sum.{sum, union}
 use Rattle.bits.specs.Word.{places}
 use Rattle.bits.proofs.Ascending.{ascending-keep, below-keep}
 use Rattle.bits.proofs.Mask.{within-le}
@@ -27,33 +28,45 @@ use Rattle.bits.proofs.Truth.{and-true-r}
 use Rattle.bits.proofs.Union.{union-lt}
 use Rattle.bits.proofs.Word.{ascending-places, below-places}
 use Rattle.rules.specs.Cleanup.{covered, stripped, cleanup}
-use Rattle.rules.specs.Form.{cube, orChain, rawCost}
+use Rattle.rules.specs.Form.{cube, orChain, rawCost, literals}
 use Rattle.rules.specs.Monomial.{monomials}
 use Rattle.rules.specs.Tree.{cost}
-use Rattle.rules.proofs.Cost.{cost-cube, cost-orChain, cost-orChain-few, termCost-suc}
+use Rattle.rules.proofs.Cost.{cost-cube, cost-orChain, cost-orChain-few, raw-literals, termCost-suc}
 use Rattle.rules.proofs.Covered.{ascending-stripped}
+use Rattle.rules.proofs.Literals.{literals-keep}
 use Rattle.rules.proofs.Size.{cost-cleanup, rawCost-limit}
 
 pub digit-le : (b : Bool) → digit b ≤ 1
 digit-le true = omega arith
 digit-le false = omega arith
 
+pub union-some : (k : List ℕ) → Ascending k → 2 ≤ length k → 0 < union k
+union-some [] s p = absurd (omega arith)
+union-some (m ∷ []) s p = absurd (omega arith)
+union-some (m ∷ o ∷ k) s p =
+    let l : List ℕ = m ∷ o ∷ k in
+    omega (arith, s .0, within-le o (union l) (union-mem l o (mem-tail m (o ∷ k) o (mem-head o k))))
+
 module _ (w : ℕ) where
   pub flags-below : union (places 64 w) < 64
   flags-below = union-lt 6 (places 64 w) (below-places 64 w)
 
-  pub flags-some : 2 ≤ length (places 64 w) → 0 < union (places 64 w)
-  flags-some h = go (places 64 w) (ascending-places 64 w) h
-    where
-      go : (k : List ℕ) → Ascending k → 2 ≤ length k → 0 < union k
-      go [] s p = absurd (omega arith)
-      go (m ∷ []) s p = absurd (omega arith)
-      go (m ∷ o ∷ k) s p =
-          let l : List ℕ = m ∷ o ∷ k in
-          omega (arith, s .0, within-le o (union l) (union-mem l o (mem-tail m (o ∷ k) o (mem-head o k))))
-
   pub raw-limit : rawCost (places 64 w) ≤ 385
   raw-limit = rawCost-limit 6 (places 64 w) (omega arith) (ascending-places 64 w) (below-places 64 w)
+
+  pub covered-limit : (c : ℕ) → literals (covered c (places 64 w)) ≤ 193
+  unfolding covered sum
+  covered-limit c =
+      omega (
+        arith,
+        literals-keep (λ m. within c m) (monomials (places 64 w)),
+        literals-keep (λ m. ltb 0 m) (places 64 w),
+        go (places 64 w) (ascending-places 64 w) raw-limit,
+      )
+    where
+      go : (k : List ℕ) → Ascending k → rawCost k ≤ 385 → literals k ≤ 193
+      go [] s h = omega arith
+      go (m ∷ k) s h = omega (arith, raw-literals (m ∷ k) s (omega arith))
 
   pub cleanup-limit : cost (cleanup (places 64 w)) ≤ 385
   cleanup-limit = le-trans (cost-cleanup (places 64 w) (ascending-places 64 w)) raw-limit

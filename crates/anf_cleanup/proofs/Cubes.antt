@@ -1,48 +1,61 @@
--- The search for the best cube: trying every nonempty set of the flags that occur, in ascending order, gives document 01's best cube, because no
--- other mask is a candidate. It rests on the candidates (Candidates), on the families' words (form, Entries) and on the places of a word, lowest first
--- (bits, Word). Assumes nothing.
---   cubes-family                       == the candidates are among the nonempty sets of the flags that occur
+-- The search for the best cube: trying every mask that two monomials contain, in ascending order, gives document 01's best cube, because no other mask is
+-- a candidate. It rests on the candidates (Candidates) and on the places of a word, lowest first (bits, Word). Assumes nothing.
+--   cubes-shared                       == the candidates are among the masks that two monomials contain
 --   fold-tried                         == trying masks one by one is choosing among the candidates of them
 --   Searching l b w                    == b is the best of the masks tried before, and the masks of the word w are left to try
 --   search-start, search-turn, search-end == all masks are left; one more is tried; none is left
 --   search-mask                        == the next mask is a cube below 64
-use mathlib.Core.Bool.{Bool, true, false, _&&_}
-use mathlib.Core.List.{List, [], _∷_, foldl}
+use mathlib.Core.Bool.{Bool, true, false, not, _&&_}
+use mathlib.Core.List.{List, [], _∷_, _++_, append-nil, foldl}
 use mathlib.Core.Path.{_≡_, refl, sym, ap, _∙_}
-use Prim.Native.Nat.{ℕ, _-_, _^_, _<_}
+use mathlib.Mathlib.Data.Bool.Basic.{eq-false-of-not-eq-true}
+use Prim.Native.Nat.{ℕ, _+_, _-_, _^_, _<_}
 use native.Mathlib.Nat.{lt-trans}
 use native.Mathlib.Omega.{arith}
 use lib.Bits.{bitAnd}
 use lib.Count.{trailingZeros}
-use lib.Dec.{ltb}
-use lib.ListN.{getD}
-use borrow.Author.Tests.{ltb-true}
-use Rattle.bits.specs.Bit.{bit, within}
-use Rattle.bits.specs.Range.{from, keep, all}
+use lib.Dec.{ltb, leb}
+use lib.ListN.{length}
+use borrow.Author.Tests.{ltb-true, lt-ltb, leb-true, le-leb}
+use Rattle.bits.specs.Bit.{bit}
+use Rattle.bits.specs.Range.{from, keep, all, mem}
 use Rattle.bits.specs.Sum.{union}
-use Rattle.bits.specs.Word.{places, word}
+use Rattle.bits.specs.Word.{places}
 use Rattle.bits.proofs.Lowest.{clear-lt, trailing-lt}
-use Rattle.bits.proofs.Range.{keep-keep, keep-ext, mem-all}
+use Rattle.bits.proofs.Mask.{within-le}
+use Rattle.bits.proofs.Range.{from-add, keep-append, keep-keep, keep-ext, keep-none, mem-all, mem-from, mem-keep}
 use Rattle.bits.proofs.Truth.{and-true-l, and-true-r}
 use Rattle.bits.proofs.Word.{places-lowest}
-use Rattle.rules.specs.Cleanup.{cleanup, family, isCube, cubeSaving, better, greatest, bestCube}
+use Rattle.rules.specs.Cleanup.{cleanup, covered, isCube, cubeSaving, better, greatest, bestCube}
 use Rattle.rules.specs.Cleanup as paper
-use Rattle.rules.proofs.Family.{and-implied, mem-family}
+use Rattle.rules.proofs.Family.{and-implied}
 use Rattle.rules.proofs.Recursion.{cubes}
-use Rattle.form.specs.Masks.{familyWords}
 use Rattle.anf_cleanup.specs.Plan.{bestOf, tried, InnerKept, Tried, Chosen}
 use Rattle.anf_cleanup.specs.declared.Best.{Best}
 use Rattle.anf_cleanup.specs.declared.Choice.the-variants.{Open}
 use Rattle.anf_cleanup.proofs.Bounds.{flags-below}
-use Rattle.anf_cleanup.proofs.Candidates.{isCube-within}
-use Rattle.form.proofs.Entries.{getD-families, family-lt, places-family}
+use Rattle.anf_cleanup.proofs.Candidates.{isCube-many, isCube-within}
+
+abbrev twice : List ℕ → ℕ → Bool
+twice l c = leb 2 (length (covered c l))
 
 module _ (l : List ℕ) where
-  pub cubes-family : keep (isCube l) (family (union l)) ≡ cubes l
-  unfolding family
-  cubes-family =
-      keep-keep (isCube l) (λ m. within m (union l)) (from 1 (union l))
-      ∙ keep-ext (λ m. within m (union l) && isCube l m) (isCube l) (from 1 (union l)) (λ m e. and-implied _ (isCube l m) (isCube-within l m))
+  pub cubes-shared : union l < 64 → keep (isCube l) (keep (twice l) (from 1 63)) ≡ cubes l
+  cubes-shared h =
+      keep-keep (isCube l) (twice l) (from 1 63)
+      ∙ keep-ext (λ c. twice l c && isCube l c) (isCube l) (from 1 63)
+      (λ c e. and-implied _ (isCube l c) (λ t. le-leb 2 (length (covered c l)) (isCube-many l c t)))
+      ∙ ap (λ (n : ℕ). keep (isCube l) (from 1 n)) parts ∙ ap (keep (isCube l)) (from-add 1 (union l) (63 - union l))
+      ∙ keep-append (isCube l) (from 1 (union l)) (from (1 + union l) (63 - union l))
+      ∙ ap (cubes l ++_) (keep-none (isCube l) (from (1 + union l) (63 - union l)) (mem-all _ _ above)) ∙ append-nil (cubes l)
+    where
+      parts : 63 ≡ union l + (63 - union l)
+      parts = omega arith
+
+      above : (c : ℕ) → mem c (from (1 + union l) (63 - union l)) ≡ true → not (isCube l c) ≡ true
+      above c e =
+          let big = leb-true (1 + union l) c (and-true-l (leb (1 + union l) c) _ (sym (mem-from (1 + union l) (63 - union l) c) ∙ e)) in
+          ap not (eq-false-of-not-eq-true (λ (t : isCube l c ≡ true). omega (arith, within-le c (union l) (isCube-within l c t))))
 
   pub fold-tried : (k : List ℕ) (b : paper.Best) → foldl (tried l) b k ≡ foldl (better (cubeSaving cleanup l)) b (keep (isCube l) k)
   unfolding tried keep
@@ -66,23 +79,26 @@ pub record Searching (l : List ℕ) (b : Best) (w : ℕ) : Type 0 where
   pub best : foldl (tried l) (bestOf b) (places 64 w) .mask ≡ bestCube cleanup l
   pub inner : InnerKept l b
 
-pub search-start : (w : ℕ) (words : List ℕ) (u : ℕ) → words ≡ familyWords → u ≡ union (places 64 w)
-    → Searching (places 64 w) (record { cube = 0; saving = 0; inner = 0; choice = Open }) (getD words u 0)
+pub search-start : (w r : ℕ) → r < 2 ^ 64 → places 64 r ≡ keep (twice (places 64 w)) (from 1 63)
+    → Searching (places 64 w) (record { cube = 0; saving = 0; inner = 0; choice = Open }) r
 unfolding bestCube greatest
-search-start w words u p q =
+search-start w r h e =
     let l = places 64 w in
-    let small : u < 64 = omega (arith, flags-below w) in
-    let entry : getD words u 0 ≡ word (family u) = ap (λ (x : List ℕ). getD x u 0) p ∙ getD-families u small in
-    let e : places 64 (getD words u 0) ≡ family u = ap (places 64) entry ∙ places-family u small in
     let none : paper.Best = record { mask = 0; saving = 0 } in
     record {
-      fits = rw entry (family-lt u small);
-      nonzero = rw e (mem-all (ltb 0) (family u) (λ m k. and-true-l (ltb 0 m) (within m u) (sym (mem-family m u) ∙ k)));
+      fits = h;
+      nonzero = rw e (mem-all (ltb 0) (keep (twice l) (from 1 63)) positive);
       best =
-          ap (λ (x : List ℕ). foldl (tried l) none x .mask) (e ∙ ap family q)
-          ∙ ap (λ (b : paper.Best). b .mask) (fold-tried l (family (union l)) none ∙ ap (foldl (better (cubeSaving cleanup l)) none) (cubes-family l));
+          ap (λ (x : List ℕ). foldl (tried l) none x .mask) e
+          ∙ ap (λ (b : paper.Best). b .mask)
+          (fold-tried l (keep (twice l) (from 1 63)) none ∙ ap (foldl (better (cubeSaving cleanup l)) none) (cubes-shared l (flags-below w)));
       inner = λ z. absurd (omega arith);
     }
+  where
+    positive : (c : ℕ) → mem c (keep (twice (places 64 w)) (from 1 63)) ≡ true → ltb 0 c ≡ true
+    positive c k =
+        let here = and-true-l (mem c (from 1 63)) _ (sym (mem-keep (twice (places 64 w)) (from 1 63) c) ∙ k) in
+        lt-ltb 0 c (leb-true 1 c (and-true-l (leb 1 c) _ (sym (mem-from 1 63 c) ∙ here)))
 
 module _ (l : List ℕ) (b : Best) (w : ℕ) (s : Searching l b w) (p : 0 < w) where
   lowest : places 64 w ≡ trailingZeros 64 w ∷ places 64 (bitAnd w (w - 1))

@@ -3,7 +3,7 @@
 --   planned-chosen                                 == the plan of a choice, for the tree that it makes
 --   planned-right, right-open                      == a plan's choice is right, and so is one that is left open
 --   improved-none, improved-one, improved-kept     == a rule with no candidate; with one that costs strictly less than the best, and with one that does not
---   planned-contest                                == the raw form, and then the candidates of rules 2, 3 and 4 in turn
+--   planned-contest, planned-single                == the raw form, and then the candidates of rules 2, 3 and 4 in turn; with one monomial there are none
 --   cost-constant, cost-family, cost-raw           == what the trees of the choices cost; a constant 1 in front costs 2
 --   cost-partial, cost-whole, cost-rest            == so of a partial OR, of a cube that covers every mask, and of one that leaves a remainder
 --   cost-absorption                                == and of an absorption
@@ -27,7 +27,7 @@ use Rattle.anf_cleanup.specs.Plan.{built, Allowed, rank, Right, Parts, P
 use Rattle.anf_cleanup.specs.declared.Choice.{Choice}
 use Rattle.anf_cleanup.specs.declared.Choice.the-variants.{Constant, Family, Raw, Partial, Cube, Absorption, Open}
 use Rattle.anf_cleanup.specs.declared.Plan.{Plan}
-use Rattle.anf_cleanup.proofs.Rules.{cleanup-contest, absorption-tree}
+use Rattle.anf_cleanup.proofs.Rules.{cleanup-contest, partialOr-few, commonCube-few, absorption-none, absorption-tree}
 
 decided : (t u : Tree) (b : Bool) → ltb (cost u) (cost t) ≡ b → cheaper t u ≡ elim b [ true ↦ u | false ↦ t ]
 unfolding cheaper
@@ -59,6 +59,11 @@ pub planned-contest : (l : List ℕ) (p q r s : Plan) → (length (monomials l) 
     → Improved l (partialOr cleanup l) p q → Improved l (commonCube cleanup l) q r → Improved l (absorption l) r s → Planned l (cleanup l) s
 planned-contest l p q r s h e raw second third fourth =
     subst (λ (t : Tree). Planned l t s) (sym (cleanup-contest l h e)) (fourth _ (third _ (second (rawForm l) raw)))
+
+pub planned-single : (l : List ℕ) (p : Plan) → length (monomials l) ≡ 1 → isFamily l ≡ false → Planned l (rawForm l) p → Planned l (cleanup l) p
+planned-single l p h e raw =
+    planned-contest l p p p p (omega arith) e raw (improved-none l _ p (partialOr-few l (omega arith))) (improved-none l _ p (commonCube-few l (omega arith)))
+    (improved-none l _ p (absorption-none l (omega arith)))
 
 -- ---- costs
 

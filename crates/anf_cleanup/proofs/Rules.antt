@@ -2,6 +2,7 @@
 -- choice that makes it. They rest on the cleanup's own equation (rules, Recursion) and on the chosen masks (Candidates). Assumes nothing.
 --   cleanup-constant, cleanup-family, cleanup-contest   == no monomials; a whole family; the contest, rule by rule
 --   family-singles                                      == a whole family has a single flag
+--   partialOr-few, commonCube-few                       == with too few monomials, rules 2 and 3 have no candidate
 --   partialOr-none, partialOr-some                      == rule 2, by the best family's mask
 --   commonCube-none, commonCube-some                    == rule 3, by the best cube
 --   absorption-none, absorption-apart, absorption-some  == rule 4: not two monomials; two, by whether the first is a subset
@@ -72,6 +73,14 @@ gated b us = elim b [ true ↦ us | false ↦ [] ]
 gated-none : (b : Bool) (us : List Tree) → us ≡ [] → gated b us ≡ []
 gated-none true us e = e
 gated-none false us e = refl
+
+pub partialOr-few : (l : List ℕ) → length (monomials l) < 3 → partialOr cleanup l ≡ []
+unfolding partialOr
+partialOr-few l h = ap (λ (b : Bool). gated b (partialAt cleanup l (bestFamily l))) (lt-leb 3 (length (monomials l)) h)
+
+pub commonCube-few : (l : List ℕ) → length (monomials l) < 2 → commonCube cleanup l ≡ []
+unfolding commonCube
+commonCube-few l h = ap (λ (b : Bool). gated b (cubeAt cleanup l (bestCube cleanup l))) (lt-leb 2 (length (monomials l)) h)
 
 module _ (l : List ℕ) (m : ℕ) (e : m ≡ bestFamily l) where
   pub partialOr-none : m ≡ 0 → partialOr cleanup l ≡ []

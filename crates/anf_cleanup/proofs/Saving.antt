@@ -1,47 +1,43 @@
--- What a cube saves, from its inner form alone: the covered monomials have the inner form's literals and the cube's flags once each. And the best
--- after a cube is tried, by what it saves, or by the most that it can save. It rests on the literals of covered monomials (rules, Literals), on raw cost by
--- literals (rules, Cost), and on the cleanup's cost and its floor (rules, Size and Floor). Assumes nothing.
+-- What a cube saves, from the literals of the monomials that it covers. And the best after a cube is tried, by what it saves, or by the most that it can
+-- save. It rests on the literals of covered monomials (rules, Literals), on raw cost by literals (rules, Cost), and on the cleanup's cost and what it is
+-- at least (rules, Size and Least). Assumes nothing.
 --   tried-skipped                  == a mask that is no candidate leaves the best as it is
---   spread c n                     == what the flags of the cube c cost in all but one of n masks; spread-least and spread-limit bound it
---   gross-sum                      == a gross saving as the code adds it up
 --   Candidate l c k                == c is a candidate cube of the form l, and k is its stripped form
---   stripped-cube                  == then k may be a stripped form of c
---   inner-bounds                   == no number of these is above the next: the cost of the OR chain of k's flags, of k cleaned, of k raw, the gross saving
---   tried-more, tried-kept         == a cube that saves more than the best so far takes its place, and one that does not leaves it
+--   inner-many                     == then k has two masks or more
+--   gross-literals, gross-room     == the gross saving by the covered monomials' literals, which are enough for it
+--   inner-bounds                   == no number of these is above the next: the least that k can cost, its cost cleaned and raw, the gross saving
 --   known-cube                     == what is known of a candidate from its gross saving and its cleaned inner form
+--   tried-more, tried-kept         == a cube that saves more than the best so far takes its place, and one that does not leaves it
 --   tried-passed                   == so does one that would not save more even with an inner form of the least cost
 use mathlib.Core.Bool.{Bool, true, false}
 use mathlib.Core.List.{List}
 use mathlib.Core.Path.{_≡_, refl, sym, ap, ap₂, subst, _∙_}
 use mathlib.Mathlib.Data.Bool.Basic.{eq-false-of-not-eq-true}
-use Prim.Native.Nat.{ℕ, _+_, _-_, _*_, _^_, _≤_, _<_}
-use native.Mathlib.Nat.{mul-le-mul, mul-le-mul-left, mul-comm, mul-assoc, mul-sub, mul-one}
+use Prim.Native.Nat.{ℕ, _+_, _-_, _*_, _≤_, _<_}
+use native.Mathlib.Nat.{mul-le-mul-right}
 use native.Mathlib.Omega.{arith}
-use lib.Count.{ones, ones-le}
+use lib.Count.{ones}
 use lib.Dec.{ltb}
 use lib.ListN.{length, length-map}
 use borrow.Author.Tests.{lt-ltb, le-ltb}
-use Rattle.bits.specs.Bit.{bit, digit}
-use Rattle.bits.specs.Range.{upto, Ascending}
-use Rattle.bits.specs.Sum.{union}
-use Rattle.bits.specs.Word.{places}
+use Rattle.bits.specs.Bit.{digit}
+use Rattle.bits.specs.Range.{Ascending}
 use Rattle.bits.proofs.Mask.{zero-within, ones-pos}
-use Rattle.bits.proofs.Range.{length-from, length-keep}
 use Rattle.rules.specs.Cleanup.{cleanup, covered, stripped, isCube, cubeSaving, better}
 use Rattle.rules.specs.Cleanup as paper
-use Rattle.rules.specs.Form.{cube, orChain, rawCost, literals}
+use Rattle.rules.specs.Form.{cube, rawCost, literals}
 use Rattle.rules.specs.Monomial.{constant}
 use Rattle.rules.specs.Tree.{cost}
 use Rattle.rules.proofs.Cost.{cost-cube, termCost-suc, raw-literals}
 use Rattle.rules.proofs.Covered.{covered-within, ascending-covered, ascending-stripped}
-use Rattle.rules.proofs.Floor.{chain-cleanup}
+use Rattle.rules.proofs.Least.{least-cleanup}
 use Rattle.rules.proofs.Literals.{literals-covered}
 use Rattle.rules.proofs.Size.{cost-cleanup}
-use Rattle.anf_cleanup.specs.Plan.{bestOf, tried, Right, Stripped, gross, Known, Tried}
+use Rattle.anf_cleanup.specs.Plan.{bestOf, tried, Right, gross, least, Known, Tried}
 use Rattle.anf_cleanup.specs.declared.Best.{Best}
 use Rattle.anf_cleanup.specs.declared.Choice.{Choice}
 use Rattle.anf_cleanup.specs.declared.Choice.the-variants.{Open}
-use Rattle.anf_cleanup.proofs.Bounds.{digit-le}
+use Rattle.anf_cleanup.proofs.Bounds.{digit-le, union-some}
 use Rattle.anf_cleanup.proofs.Candidates.{isCube-many}
 use Rattle.anf_cleanup.proofs.Plans.{right-open}
 
@@ -66,30 +62,6 @@ module _ (l : List ℕ) (c : ℕ) (b : Best) where
 
 -- ---- what a cube saves
 
-abbrev pub spread : ℕ → ℕ → ℕ
-spread c n = 2 * ones c * (n - 1)
-
-pub gross-sum : (c : ℕ) (k : List ℕ) (r n d : ℕ) → r ≡ rawCost k → n ≡ length k → d ≡ digit (constant k) → r + spread c n - 2 * d ≡ gross c k
-unfolding gross
-gross-sum c k r n d p q e = cc
-
-module _ (c : ℕ) (k : List ℕ) {r : ℕ} (h : Stripped c k r) where
-  pub spread-least : (n : ℕ) → n ≡ length k → 2 ≤ spread c n
-  spread-least n e = mul-le-mul {n₁ = 2} {m₁ = 1} (omega (arith, ones-pos c (h .nonzero))) (omega (arith, h .many))
-
-  gross-raw : rawCost k ≤ gross c k
-  unfolding gross
-  gross-raw = omega (arith, spread-least (length k) refl, digit-le (constant k))
-
-pub spread-limit : (c w n : ℕ) → c < 2 ^ 64 → n ≡ length (places 64 w) → spread c n ≤ 8064
-unfolding places
-spread-limit c w n h e =
-    mul-le-mul {n₂ = 128} {m₂ = 63} (omega (arith, ones-le 64 c h)) (omega (arith, length-keep (bit w) (upto 64), length-from 0 64))
-
--- something of each of k masks, and of all but one
-each : (u k : ℕ) → 1 ≤ k → 2 * (k * u) ≡ 2 * u * (k - 1) + 2 * u
-each u k h = omega (arith, mul-sub (2 * u) k 1, mul-one (2 * u), mul-assoc 2 u k, mul-comm u k, mul-le-mul-left (2 * u) h)
-
 pub record Candidate (l : List ℕ) (c : ℕ) (k : List ℕ) : Type 0 where
   pub rises : Ascending l
   pub nonzero : 0 < c
@@ -107,37 +79,50 @@ module _ (l : List ℕ) (c : ℕ) (k : List ℕ) (u : Candidate l c k) where
   no-constant : constant (covered c l) ≡ false
   no-constant = eq-false-of-not-eq-true (λ e. omega (arith, u .nonzero, zero-within c (covered-within c l 0 e)))
 
-  pub stripped-cube : (r : ℕ) → r ≡ rawCost k → Stripped c k r
-  stripped-cube r e = record { nonzero = u .nonzero; many = omega (arith, size, isCube-many l c (u .test)); raw = e }
+  pub inner-many : 2 ≤ length k
+  inner-many = omega (arith, size, isCube-many l c (u .test))
 
-  gross-cube : gross c k ≡ rawCost (covered c l) - 1 - cost (cube c)
+  -- the cube's flags in every covered monomial, which are two or more
+  shared : literals k + 2 * ones c ≤ literals (covered c l)
+  shared = omega (arith, literals-covered c l, ap literals (u .inner), mul-le-mul-right (ones c) (isCube-many l c (u .test)))
+
+  pub gross-room : 2 + cost (cube c) ≤ 2 * literals (covered c l)
+  gross-room = omega (arith, shared, cost-cube c, termCost-suc c (u .nonzero), ones-pos c (u .nonzero))
+
+  pub gross-literals : 2 * literals (covered c l) - 2 - cost (cube c) ≡ gross c l
   unfolding gross
-  gross-cube =
-      let s = stripped-cube (rawCost k) refl in
+  gross-literals =
       omega (
         arith,
-        spread-least c k s (length k) refl,
-        each (ones c) (length (covered c l)) (omega (arith, size, s .many)),
-        ap (λ (x : ℕ). 2 * ones c * (x - 1)) size,
-        raw-literals (covered c l) (ascending-covered c l (u .rises)) (omega (arith, size, s .many)),
+        gross-room,
         ap digit no-constant,
-        raw-literals k rising (omega (arith, s .many)),
-        digit-le (constant k),
-        literals-covered c l,
-        ap literals (u .inner),
-        cost-cube c,
-        termCost-suc c (u .nonzero),
+        raw-literals (covered c l) (ascending-covered c l (u .rises)) (omega (arith, size, inner-many)),
       )
 
-  pub inner-bounds : (cost (orChain (union k)) ≤ cost (cleanup k)) × (cost (cleanup k) ≤ rawCost k) × (rawCost k ≤ gross c k)
-  inner-bounds = (chain-cleanup k rising, cost-cleanup k rising, gross-raw c k (stripped-cube (rawCost k) refl))
+  pub inner-bounds : (least k ≤ cost (cleanup k)) × (cost (cleanup k) ≤ rawCost k) × (rawCost k ≤ gross c l)
+  unfolding least
+  inner-bounds = (
+    least-cleanup k rising (union-some k rising inner-many),
+    cost-cleanup k rising,
+    omega (
+      arith,
+      gross-literals,
+      gross-room,
+      shared,
+      cost-cube c,
+      termCost-suc c (u .nonzero),
+      ones-pos c (u .nonzero),
+      raw-literals k rising (omega (arith, inner-many)),
+      digit-le (constant k),
+    ),
+  )
 
   cost-stripped : (n : ℕ) → n ≡ cost (cleanup k) → n ≡ cost (cleanup (stripped c l))
   cost-stripped n e = e ∙ ap (λ (x : List ℕ). cost (cleanup x)) (u .inner)
 
-  saving-cube : (g n : ℕ) → g ≡ gross c k → n ≡ cost (cleanup k) → g - n ≡ cubeSaving cleanup l c
-  unfolding cubeSaving
-  saving-cube g n p q = ap₂ (λ (x y : ℕ). x - y) (p ∙ gross-cube) (cost-stripped n q)
+  saving-cube : (g n : ℕ) → g ≡ gross c l → n ≡ cost (cleanup k) → g - n ≡ cubeSaving cleanup l c
+  unfolding cubeSaving gross
+  saving-cube g n p q = ap₂ (λ (x y : ℕ). x - y) p (cost-stripped n q)
 
 -- ---- the best after a cube
 
@@ -155,7 +140,7 @@ module _ (l : List ℕ) (b c : Best) (k : Known l c) where
   }
 
 module _ (l : List ℕ) (c : ℕ) (k : List ℕ) (u : Candidate l c k) where
-  pub known-cube : (g n : ℕ) (d : Choice) → g ≡ gross c k → n ≡ cost (cleanup k) → Right d k
+  pub known-cube : (g n : ℕ) (d : Choice) → g ≡ gross c l → n ≡ cost (cleanup k) → Right d k
       → Known l (record { cube = c; saving = g - n; inner = n; choice = d })
   known-cube g n d p q r = record {
     test = u .test;
@@ -163,6 +148,6 @@ module _ (l : List ℕ) (c : ℕ) (k : List ℕ) (u : Candidate l c k) where
     inner = record { cost = cost-stripped l c k u n q; choice = subst (Right d) (u .inner) r };
   }
 
-  pub tried-passed : (b : Best) → gross c k - cost (orChain (union k)) ≤ b .saving → Tried l c b b
+  pub tried-passed : (b : Best) → gross c l - least k ≤ b .saving → Tried l c b b
   tried-passed b h =
-      tried-kept l b _ (known-cube (gross c k) (cost (cleanup k)) Open refl refl (right-open k)) (omega (arith, inner-bounds l c k u))
+      tried-kept l b _ (known-cube (gross c l) (cost (cleanup k)) Open refl refl (right-open k)) (omega (arith, inner-bounds l c k u))

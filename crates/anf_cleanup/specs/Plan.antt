@@ -8,19 +8,18 @@
 --   Improved l us p q    == where p plans the best tree so far, q plans the best after the candidates us
 --   tried l b c          == document 01's best after the mask c is tried, where b was the best before
 --   Tried l c b r        == so of the code's b and r, which keep the cost of the cleaned inner form too
---   Stripped c k r       == k may be a stripped form of the cube c: it has two masks or more, and the raw cost r
---   gross c k            == what the cube c saves before its inner form k is paid for
+--   gross c l            == what the cube c saves in the form l before its inner form is paid for
+--   least k              == no cleaned form of k costs less: the OR chain of its flags, and 2 more for a constant 1
 --   Known l b            == the cube of b saves what b says, and its inner form's cost and choice are right
 --   Chosen l b           == b is the best cube of the form l with the cost of the cleaned inner form, or no cube
 use mathlib.Core.Bool.{true, false, not}
 use mathlib.Core.List.{List, [], _∷_, foldl}
 use mathlib.Core.Path.{_≡_}
-use Prim.Native.Nat.{ℕ, _+_, _-_, _*_, _<_, _≤_}
-use lib.Count.{ones}
-use lib.ListN.{length}
+use Prim.Native.Nat.{ℕ, _+_, _-_, _*_, _<_}
 use Rattle.bits.specs.Bit.{digit, within}
 use Rattle.bits.specs.Range.{keep, mem}
-use Rattle.rules.specs.Cleanup.{cleanup, family, singles, atop, isFamily, bestFamily, withRest, stripped, absorption, cheaper, isCube, cubeSaving, better, bestCube}
+use Rattle.bits.specs.Sum.{union}
+use Rattle.rules.specs.Cleanup.{cleanup, family, singles, atop, isFamily, bestFamily, withRest, covered, stripped, absorption, cheaper, isCube, cubeSaving, better, bestCube}
 use Rattle.rules.specs.Cleanup as paper
 use Rattle.rules.specs.Form.{cube, orChain, rawForm, rawCost}
 use Rattle.rules.specs.Monomial.{constant}
@@ -105,14 +104,12 @@ pub record Tried (l : List ℕ) (c : ℕ) (b r : Best) : Type 0 where
   pub best : bestOf r ≡ tried l (bestOf b) c
   pub inner : InnerKept l b → InnerKept l r
 
-pub record Stripped (c : ℕ) (k : List ℕ) (r : ℕ) : Type 0 where
-  pub nonzero : 0 < c
-  pub many : 2 ≤ length k
-  pub raw : r ≡ rawCost k
-
--- raw cost of the covered monomials, less 1, less the cube's cost: they have the inner form's literals, the cube's flags once each, and no constant
+-- "raw cost of the covered monomials, without the constant, less 1 less the cube's cost"
 unfoldable pub gross : ℕ → List ℕ → ℕ
-gross c k = rawCost k + 2 * ones c * (length k - 1) - 2 * digit (constant k)
+gross c l = rawCost (covered c l) - 1 - cost (cube c)
+
+unfoldable pub least : List ℕ → ℕ
+least k = cost (orChain (union k)) + 2 * digit (constant k)
 
 pub record Known (l : List ℕ) (b : Best) : Type 0 where
   pub test : isCube l (b .cube) ≡ true

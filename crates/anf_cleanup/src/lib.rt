@@ -2,15 +2,15 @@
 // `find_best_factor` of `anf_cleanup.rs`. Nothing is written here. The cleanup and the best-cube search call each other, and the form's total
 // literals fall from one cleanup to the next. It rests on `form` and on the definitions of `rules`.
 use form::Form;
+ghost use mathlib.Core.Bool.{true};
 ghost use mathlib.Core.Path.{_≡_};
 ghost use Prim.Native.Nat.{_<_, _≤_};
 ghost use lib.ListN.{length};
-ghost use Rattle.bits.specs.Sum.{union};
 ghost use Rattle.form.specs.Masks.{masks, familyWords, supersetWords};
 ghost use Rattle.rules.specs.Cleanup as paper;
 ghost use Rattle.rules.specs.Form as raw;
 ghost use Rattle.rules.specs.Tree.{cost};
-ghost use Rattle.anf_cleanup.specs.Plan.{Planned, Improved, Stripped, gross, Tried, Chosen};
+ghost use Rattle.anf_cleanup.specs.Plan.{Planned, Improved, gross, least, Tried, Chosen};
 
 // The rule that wins: no monomials, the whole OR family, the raw form, or the candidate of rule 2, 3 or 4, with its mask. `Open` leaves it to be found.
 pub enum Choice {
@@ -89,7 +89,8 @@ pub fn cleanup(form: Form, raw_cost: usize, families: &[u64; 64], supersets: &[u
     requires { ⌜ («raw_cost» ≡ raw.rawCost (masks form)) × (now families ≡ familyWords) × (now supersets ≡ supersetWords) ⌝ }
     ensures { λ r. ⌜ Planned (masks form) (paper.cleanup (masks form)) r ⌝ }
 {
-    if form.count() == 0 {
+    let count = form.count();
+    if count == 0 {
         return whole(Choice::Constant, 1);
     }
     if form.is_family(families) {
@@ -99,6 +100,9 @@ pub fn cleanup(form: Form, raw_cost: usize, families: &[u64; 64], supersets: &[u
         );
     }
     let first = whole(Choice::Raw, raw_cost);
+    if count == 1 {
+        return first;
+    }
     let second = partial_or(form, first, families, supersets);
     let third = common_cube(form, second, families, supersets);
     absorption(form, third)
@@ -155,7 +159,7 @@ fn common_cube(form: Form, best: Plan, families: &[u64; 64], supersets: &[u64; 6
     factored(found, cost, chosen)
 }
 
-// The cube of the greatest saving, the smallest of equal ones: every mask of flags that occur is tried in ascending order.
+// The cube of the greatest saving, the smallest of equal ones: every mask that two monomials contain is tried in ascending order.
 fn best_cube(form: Form, families: &[u64; 64], supersets: &[u64; 64]) -> Best
     requires { ⌜ (now families ≡ familyWords) × (now supersets ≡ supersetWords) ⌝ }
     ensures { λ r. ⌜ Chosen (masks form) r ⌝ }
@@ -166,7 +170,7 @@ fn best_cube(form: Form, families: &[u64; 64], supersets: &[u64; 64]) -> Best
         inner: 0,
         choice: Choice::Open,
     };
-    let mut left = families[form.flags()];
+    let mut left = form::search::shared_cubes(form);
     while left != 0 {
         let cube = u64::trailing_zeros(left) as usize;
         best = try_cube(form, cube, best, families, supersets);
@@ -190,13 +194,12 @@ fn try_cube(
     if !form::search::is_cube(form, cube, families, supersets) {
         return best;
     }
+    let gross = gross_saving(form, cube, supersets);
     let inner = form.stripped(cube, supersets);
-    let raw_cost = inner.raw_cost();
-    let gross = gross_saving(cube, inner, raw_cost);
     if gross - least_cost(inner) <= best.saving {
         return best;
     }
-    let plan = cleanup(inner, raw_cost, families, supersets);
+    let plan = cleanup(inner, inner.raw_cost(), families, supersets);
     let saving = gross - plan.cost;
     if saving <= best.saving {
         return best;
@@ -210,21 +213,20 @@ fn try_cube(
     }
 }
 
-// What a cube saves before its inner form is paid for. The covered monomials have the inner form's literals and the cube's flags once each.
-fn gross_saving(cube: usize, inner: Form, raw_cost: usize) -> usize
-    requires { ⌜ Stripped cube (masks inner) «raw_cost» ⌝ }
-    ensures { λ r. ⌜ r ≡ gross cube (masks inner) ⌝ }
+// What a cube saves before its inner form is paid for: the raw cost of the covered monomials, less 1, less the cube's cost.
+fn gross_saving(form: Form, cube: usize, supersets: &[u64; 64]) -> usize
+    requires { ⌜ (now supersets ≡ supersetWords) × (0 < cube) × (cube < 64) × (paper.isCube (masks form) cube ≡ true) ⌝ }
+    ensures { λ r. ⌜ r ≡ gross cube (masks form) ⌝ }
 {
-    let flags = u64::count_ones(cube as u64) as usize;
-    raw_cost + 2 * flags * (inner.size() - 1) - 2 * inner.constant()
+    2 * form.covered_literals(cube, supersets) - 2 - product_cost(cube)
 }
 
-// No expression that names all flags of a form costs less than their OR chain.
+// No expression that names all flags of a form costs less than their OR chain, and a constant 1 costs 2 more.
 fn least_cost(inner: Form) -> usize
     requires { ⌜ 2 ≤ length (masks inner) ⌝ }
-    ensures { λ r. ⌜ r ≡ cost (raw.orChain (union (masks inner))) ⌝ }
+    ensures { λ r. ⌜ r ≡ least (masks inner) ⌝ }
 {
-    chain_cost(inner.flags())
+    chain_cost(inner.flags()) + 2 * inner.constant()
 }
 
 // Rule 4: of two monomials of which one is a subset of the other, the smaller without the rest of the larger.

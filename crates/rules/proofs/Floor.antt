@@ -26,7 +26,7 @@ floor zero = 1
 floor (suc zero) = 1
 floor (suc (suc k)) = suc (suc (suc k))
 
-floor-le : (k : ℕ) → floor k ≤ suc k
+pub floor-le : (k : ℕ) → floor k ≤ suc k
 unfolding floor
 floor-le zero = le-refl 1
 floor-le (suc zero) = omega arith

@@ -63,7 +63,7 @@ union-without m l a p h =
 or-sub : (c m : ℕ) → within c m ≡ true → bitOr c (m - c) ≡ m
 or-sub c m h = or-disjoint c (m - c) (sub-disjoint c m h) ∙ omega (arith, within-le c m h)
 
-or-within : (c m : ℕ) → within c m ≡ true → bitOr c m ≡ m
+pub or-within : (c m : ℕ) → within c m ≡ true → bitOr c m ≡ m
 or-within c m h =
     within-antisym (bitOr c m) m (within-or c m m ∙ and-intro (within c m) (within m m) h (within-refl m)) (within-or-r c m)
 

@@ -1,66 +1,39 @@
--- `anf_cleanup::gross_saving` meets its contract, which names the same sum. Nothing wraps: the cube has a flag and the inner form two masks, so the cube's
--- flags in all masks but one cost at least 2, which is what the constant takes away, and in one word they cost little (Saving). Assumes nothing.
+-- `anf_cleanup::gross_saving` meets its contract: the covered monomials' raw cost is one less than twice their literals, which are enough for the cube's
+-- cost (Saving) and in one word few (Bounds). Assumes nothing.
+use mathlib.Core.Path.{refl}
 use native.Mathlib.Omega.{arith}
-use lib.Count.{ones-le}
 use borrow.Author.Needs.{needs}
-use Rattle.rules.specs.Monomial.{constant}
+use Rattle.bits.proofs.Word.{ascending-places}
+use Rattle.rules.specs.Cleanup.{stripped}
 use Rattle.form.specs.Masks.{masks}
-use Rattle.anf_cleanup.proofs.Bounds.{digit-le, raw-limit}
-use Rattle.anf_cleanup.proofs.Saving.{gross-sum, spread-least, spread-limit}
+use Rattle.anf_cleanup.proofs.Bounds.{covered-limit}
+use Rattle.anf_cleanup.proofs.Saving.{Candidate, gross-room, gross-literals}
 use Rattle.anf_cleanup.proofs.gross_saving.Statement.{statement}
 use Rattle.anf_cleanup.proofs.gross_saving.Tie as tie
 
-cast-flags : tie.Need-cast-flags
-cast-flags c = omega (arith, ones-le 64 (c .args .cube) (c .fits .cube .fits))
+covered-literals-requires : tie.Need-covered-literals-requires
+covered-literals-requires c κs = search needs
+
+candidate : (s : tie.Start) → (let l = masks (s .args .form) in Candidate l (s .args .cube) (stripped (s .args .cube) l))
+candidate s = record { rises = ascending-places 64 (s .args .form .word); nonzero = s .pre .1; test = s .pre .3; inner = refl }
 
 mul-result : tie.Need-mul-result
-mul-result c = omega (arith, ones-le 64 (c .args .cube) (c .fits .cube .fits))
-
-size-requires : tie.Need-size-requires
-size-requires c κs = search needs
+mul-result c = omega (arith, c .covered-literals .ensures, covered-limit (c .before .args .form .word) (c .before .args .cube))
 
 sub-result : tie.Need-sub-result
-sub-result c = search needs
+sub-result c = omega (arith, c .covered-literals .ensures, gross-room _ _ _ (candidate (c .before)))
 
-mul-result-2 : tie.Need-mul-result-2
-mul-result-2 c = omega (arith, spread-limit _ (c .before .args .inner .word) _ (c .before .fits .cube .fits) (c .size .ensures))
-
-add-result : tie.Need-add-result
-add-result c =
-    let start = c .before in
-    let word = start .args .inner .word in
-    omega (arith, start .pre .raw, raw-limit word, spread-limit _ word _ (start .fits .cube .fits) (c .size .ensures))
-
-constant-requires : tie.Need-constant-requires
-constant-requires c κs = search needs
-
-mul-result-3 : tie.Need-mul-result-3
-mul-result-3 c = omega (arith, c .constant .ensures, digit-le (constant (masks (c .before .before .args .inner))))
+product-cost-requires : tie.Need-product-cost-requires
+product-cost-requires c κs = search needs
 
 sub-result-2 : tie.Need-sub-result-2
 sub-result-2 c =
     let start = c .before .before in
-    omega (
-      arith,
-      c .constant .ensures,
-      digit-le (constant (masks (start .args .inner))),
-      spread-least _ _ (start .pre) _ (c .before .size .ensures),
-    )
+    omega (arith, c .before .covered-literals .ensures, c .product-cost .ensures, gross-room _ _ _ (candidate start))
 
 returns : tie.Need-returns
-returns c = gross-sum _ _ _ _ _ (c .before .before .pre .raw) (c .before .size .ensures) (c .constant .ensures)
+returns c = omega (arith, c .before .covered-literals .ensures, c .product-cost .ensures, gross-literals _ _ _ (candidate (c .before .before)))
 
 pub gross-saving-spec : {M : Type 1} → statement M
 gross-saving-spec =
-    tie.close
-    (tie.spec
-    cast-flags
-    mul-result
-    size-requires
-    sub-result
-    mul-result-2
-    add-result
-    constant-requires
-    mul-result-3
-    sub-result-2
-    returns)
+    tie.close (tie.spec covered-literals-requires mul-result sub-result product-cost-requires sub-result-2 returns)

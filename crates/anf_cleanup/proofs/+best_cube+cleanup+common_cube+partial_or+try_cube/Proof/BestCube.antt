@@ -4,7 +4,6 @@ use Prim.Native.Nat.{ℕ}
 use native.Mathlib.Omega.{arith}
 use Rattle.bits.proofs.Lowest.{clear-lt}
 use Rattle.form.specs.Masks.{masks}
-use Rattle.anf_cleanup.proofs.Bounds.{flags-below}
 use Rattle.anf_cleanup.proofs.Cubes.{Searching, search-start, search-turn, search-end, search-mask}
 use Rattle.anf_cleanup.proofs.best_cube.Reads as reads
 use Rattle.anf_cleanup.proofs.+best_cube+cleanup+common_cube+partial_or+try_cube.Lts-best_cube as lts
@@ -17,26 +16,18 @@ abbrev μ-loop : lts.MeasureT-loop
 μ-loop form families supersets best₀ left₀ best left = left
 
 module _ (t : ℕ) where
-  flags-requires : lts.Need-flags-requires (calls t) (at t) reads.Post Inv-loop μ-loop
-  flags-requires c κs = tt
-
-  mul-left : lts.Need-mul-left (calls t) (at t) reads.Post Inv-loop μ-loop
-  mul-left c = omega (arith, flags-below (c .before .args .form .word))
-
-  element-copy-out-left : lts.Need-element-copy-out-left (calls t) (at t) reads.Post Inv-loop μ-loop
-  element-copy-out-left c = omega (arith, flags-below (c .before .args .form .word))
+  shared-cubes-requires : lts.Need-shared-cubes-requires (calls t) (at t) reads.Post Inv-loop μ-loop
+  shared-cubes-requires c κs = tt
 
   loop-holds : lts.Need-loop-holds (calls t) (at t) reads.Post Inv-loop μ-loop
-  loop-holds c =
-      let start = c .before .before in
-      search-start (start .args .form .word) _ _ (start .pre .1 .0) (c .before .flags .ensures)
+  loop-holds c = search-start (c .before .args .form .word) _ (omega (arith, c .shared-cubes .ok)) (c .shared-cubes .ensures)
 
   cast-cube : lts.Need-cast-cube (calls t) (at t) reads.Post Inv-loop μ-loop
   cast-cube c = omega (arith, search-mask _ _ _ (c .before .loop .inv) (omega arith))
 
   try-cube-requires : lts.Need-try-cube-requires (calls t) (at t) reads.Post Inv-loop μ-loop
   try-cube-requires c κs =
-      let pre = c .before .before .before .before .pre in
+      let pre = c .before .before .before .pre in
       let mask = search-mask _ _ _ (c .before .loop .inv) (omega arith) in
       (omega (arith, pre .0), (pre .1 .0, pre .1 .1, mask .0, mask .1))
 
@@ -54,5 +45,4 @@ module _ (t : ℕ) where
 
   pub spec : {M : Type 1} → lts.Closed (calls t) (at t) reads.Post M
   spec =
-      lts.spec (calls t) (at t) reads.Post Inv-loop μ-loop flags-requires mul-left element-copy-out-left loop-holds cast-cube try-cube-requires
-      sub-left loop-less loop-again returns
+      lts.spec (calls t) (at t) reads.Post Inv-loop μ-loop shared-cubes-requires loop-holds cast-cube try-cube-requires sub-left loop-less loop-again returns

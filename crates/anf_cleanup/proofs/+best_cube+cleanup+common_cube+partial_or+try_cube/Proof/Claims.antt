@@ -29,7 +29,6 @@ use Rattle.anf_cleanup.proofs.least_cost.Reads as least-cost-reads
 use Rattle.anf_cleanup.proofs.whole.Reads as whole-reads
 use Rattle.form.proofs.Form.constant.Reads as constant-reads
 use Rattle.form.proofs.Form.count.Reads as count-reads
-use Rattle.form.proofs.Form.flags.Reads as flags-reads
 use Rattle.form.proofs.Form.is_empty.Reads as is-empty-reads
 use Rattle.form.proofs.Form.is_family.Reads as is-family-reads
 use Rattle.form.proofs.Form.raw_cost.Reads as raw-cost-reads
@@ -40,6 +39,7 @@ use Rattle.form.proofs.Form.without.Reads as without-reads
 use Rattle.anf_cleanup.proofs.product_cost.Reads as product-cost-reads
 use Rattle.form.proofs.search.best_family.Reads as best-family-reads
 use Rattle.form.proofs.search.is_cube.Reads as is-cube-reads
+use Rattle.form.proofs.search.shared_cubes.Reads as shared-cubes-reads
 
 abbrev pub μ-best-cube : Measures 2 best-cube-kinds.ps ℕ
 μ-best-cube κs a = 5 * literals (masks (a .0)) + 2
@@ -95,7 +95,7 @@ try-cube-below t =
 -- what each member's callees ask and tell
 
 abbrev pub best-cube-calls : ℕ → best-cube-lts.Claims
-best-cube-calls t = (flags-reads.Asked, flags-reads.Learnt, try-cube-below t, try-cube.Post)
+best-cube-calls t = (shared-cubes-reads.Asked, shared-cubes-reads.Learnt, try-cube-below t, try-cube.Post)
 
 abbrev pub cleanup-calls : ℕ → cleanup-lts.Claims
 cleanup-calls t = (
@@ -155,14 +155,14 @@ abbrev pub try-cube-calls : ℕ → try-cube-lts.Claims
 try-cube-calls t = (
   is-cube-reads.Asked,
   is-cube-reads.Learnt,
-  stripped-reads.Asked,
-  stripped-reads.Learnt,
-  raw-cost-reads.Asked,
-  raw-cost-reads.Learnt,
   gross-saving-reads.Asked,
   gross-saving-reads.Learnt,
+  stripped-reads.Asked,
+  stripped-reads.Learnt,
   least-cost-reads.Asked,
   least-cost-reads.Learnt,
+  raw-cost-reads.Asked,
+  raw-cost-reads.Learnt,
   cleanup-below t,
   cleanup.Post,
 )

@@ -4,13 +4,15 @@ use mathlib.Core.Path.{refl, sym, _∙_}
 use Prim.Native.Nat.{ℕ}
 use native.Mathlib.Omega.{arith}
 use borrow.Author.Needs.{needs}
+use Rattle.rules.specs.Form.{rawForm}
 use Rattle.rules.specs.Monomial.{constant}
 use Rattle.form.specs.Masks.{masks}
 use Rattle.form.proofs.Flags.{singles-lt}
+use Rattle.anf_cleanup.specs.Plan.{Planned}
 use Rattle.anf_cleanup.specs.declared.Choice.the-variants.{Constant, Family, Raw}
 use Rattle.anf_cleanup.proofs.Bounds.{digit-le, chain-limit}
 use Rattle.anf_cleanup.proofs.Rules.{cleanup-constant, cleanup-family, family-singles}
-use Rattle.anf_cleanup.proofs.Plans.{planned-chosen, planned-contest, cost-constant, cost-family, cost-raw}
+use Rattle.anf_cleanup.proofs.Plans.{planned-chosen, planned-contest, planned-single, cost-constant, cost-family, cost-raw}
 use Rattle.anf_cleanup.proofs.cleanup.Reads as reads
 use Rattle.anf_cleanup.proofs.+best_cube+cleanup+common_cube+partial_or+try_cube.Lts-cleanup as lts
 use Rattle.anf_cleanup.proofs.+best_cube+cleanup+common_cube+partial_or+try_cube.Proof.Claims.{cleanup-at as at, cleanup-calls as calls}
@@ -67,6 +69,15 @@ module _ (t : ℕ) where
   whole-requires-3 : lts.Need-whole-requires-3 (calls t) (at t) reads.Post
   whole-requires-3 c κs = tt
 
+  raw-planned : (c : lts.After-whole3 (calls t) (at t) reads.Post)
+      → (let form = masks (c .before .before .before .before .before .args .form) in Planned form (rawForm form) (c .whole3 .result))
+  raw-planned c = planned-chosen _ Raw _ _ _ _ (c .whole3 .ensures) (cost-raw _ _ (c .before .before .before .before .before .pre .1 .0)) tt refl tt _ refl
+
+  returns-3 : lts.Need-returns-3 (calls t) (at t) reads.Post
+  returns-3 c =
+      let left = c .before .before in
+      planned-single _ _ (sym (left .before .before .before .count .ensures) ∙ c .if3 .taken) (sym (left .before .is-family .ensures) ∙ left .if2 .left) (raw-planned (c .before))
+
   partial-or-requires : lts.Need-partial-or-requires (calls t) (at t) reads.Post
   partial-or-requires c κs = search needs
 
@@ -76,19 +87,17 @@ module _ (t : ℕ) where
   absorption-requires : lts.Need-absorption-requires (calls t) (at t) reads.Post
   absorption-requires c κs = tt
 
-  returns-3 : lts.Need-returns-3 (calls t) (at t) reads.Post
-  returns-3 c =
+  returns-4 : lts.Need-returns-4 (calls t) (at t) reads.Post
+  returns-4 c =
       let second = c .before .before in
-      let raw = second .before in
+      let raw = second .before .before in
       let left = raw .before in
       let counted = left .before .before in
-      let start = counted .before .before in
       planned-contest _ _ _ _ _ (λ e. counted .if1 .left (counted .before .count .ensures ∙ e)) (sym (left .before .is-family .ensures) ∙ left .if2 .left)
-      (planned-chosen _ Raw _ _ _ _ (raw .whole3 .ensures) (cost-raw _ _ (start .pre .1 .0)) tt refl tt _ refl) (second .partial-or .ensures)
-      (c .before .common-cube .ensures) (c .absorption .ensures)
+      (raw-planned raw) (second .partial-or .ensures) (c .before .common-cube .ensures) (c .absorption .ensures)
 
   pub spec : {M : Type 1} → lts.Closed (calls t) (at t) reads.Post M
   spec =
       lts.spec (calls t) (at t) reads.Post count-requires whole-requires returns is-family-requires singles-requires chain-cost-requires
-      constant-requires mul-whole add-whole whole-requires-2 returns-2 whole-requires-3 partial-or-requires common-cube-requires
-      absorption-requires returns-3
+      constant-requires mul-whole add-whole whole-requires-2 returns-2 whole-requires-3 returns-3 partial-or-requires common-cube-requires
+      absorption-requires returns-4
