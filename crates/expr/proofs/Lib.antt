@@ -4,3 +4,4 @@ pub mod Stack
 pub mod Walk
 pub mod Values
 pub mod Costed
+pub mod Packed

@@ -1,7 +1,6 @@
 // Evaluation of an expression at one setting.
-use crate::Kind;
 use crate::Reading;
-use crate::arity;
+use crate::evaluation::packed_stack::after;
 use crate::read;
 use rules::BAD_END;
 use rules::BAD_SETTING;
@@ -11,14 +10,21 @@ use rules::RECORD_LIMIT;
 use rules::RULE_FLAGS;
 use rules::Refusal;
 use rules::TOO_MANY_FLAGS;
+
+mod deep;
+mod packed_stack;
+
 ghost use mathlib.Core.Path.{_≡_};
 ghost use Prim.Native.Nat.{_≤_};
 ghost use Rattle.bits.specs.Bit.{digit};
 ghost use Rattle.rules.specs.Calls;
 ghost use Rattle.rules.specs.Limits.{ruleFlags};
 ghost use Rattle.rules.specs.Outcome.{gives};
-ghost use Rattle.expr.specs.Answers.{kindOf, IndexBelow, ended};
-ghost use Rattle.expr.specs.Values.{evaluationOf, evaluated, applied};
+ghost use Rattle.expr.specs.Answers.{ended};
+ghost use Rattle.expr.specs.Values.{evaluationOf, evaluated};
+
+// No value more fits on a stack whose leading one is the highest bit.
+const FULL: usize = 0x8000000000000000;
 
 // An expression's value at a setting, 0 or 1, or the refusal.
 pub enum Evaluation {
@@ -46,38 +52,38 @@ pub fn evaluate(flags: usize, bytes: &[u8], setting: usize) -> Evaluation
     walk(flags, bytes, setting)
 }
 
-// The records in turn over a stack of truth values.
+// The records in turn over a stack of truth values that is the bits of one number; a stack that fills it is left to the array.
 fn walk(flags: usize, bytes: &[u8], setting: usize) -> Evaluation
     requires { ⌜ flags ≤ ruleFlags ⌝ }
     ensures { λ r. ⌜ evaluationOf r ≡ evaluated flags (now (bytes .entry)) setting ⌝ }
 {
-    let mut stack = [false; 386];
-    let mut depth = 0;
+    let mut stack: usize = 1;
     let mut place = 0;
     let mut count = 0;
     while count < RECORD_LIMIT {
+        if FULL <= stack {
+            return deep::walk(flags, bytes, setting);
+        }
         let answer = read(flags, bytes, place);
         let Reading::Found(node) = answer else {
             let Reading::Refused(refusal) = answer else {
-                return finished(stack[0], depth, bytes.len());
+                return finished(stack % 2 == 1, stack / 2, bytes.len());
             };
             return Evaluation::Refused(refusal);
         };
         let kind = node.kind;
-        let operands = arity(kind);
-        if depth < operands {
+        let next = after(kind, setting, stack);
+        if next == 0 {
             return refused(FEW_OPERANDS, place);
         }
-        let base = depth - operands;
-        stack[base] = value(kind, setting, stack[base], stack[base + 1]);
-        depth = base + 1;
+        stack = next;
         place = node.next;
         count = count + 1;
     }
     if place < bytes.len() {
         return refused(MANY_RECORDS, place);
     }
-    finished(stack[0], depth, bytes.len())
+    finished(stack % 2 == 1, stack / 2, bytes.len())
 }
 
 // The answer at the end of the records, where one operand must be left.
@@ -88,19 +94,4 @@ fn finished(value: bool, depth: usize, length: usize) -> Evaluation
         return Evaluation::Value(value as u64);
     }
     refused(BAD_END, length)
-}
-
-// The value of a record from those of its operands; a leaf has none.
-fn value(kind: Kind, setting: usize, first: bool, second: bool) -> bool
-    requires { ⌜ IndexBelow 64 (kindOf kind) ⌝ }
-    ensures { λ r. ⌜ r ≡ applied (kindOf kind) setting first second ⌝ }
-{
-    match kind {
-        Kind::Constant(b) => b == 1,
-        Kind::Variable(i) => (setting >> i) % 2 == 1,
-        Kind::And => first & second,
-        Kind::Or => first | second,
-        Kind::Xor => first ^ second,
-        Kind::Not => !first,
-    }
 }

@@ -1,10 +1,10 @@
--- `expr::evaluation::value` meets its contract: each arm is told the kind, and with it `applied` is the arm's operation. A flag's index is below
+-- `expr::evaluation::deep::value` meets its contract: each arm is told the kind, and with it `applied` is the arm's operation. A flag's index is below
 -- 64 by the `requires`. Assumes nothing.
 use borrow.Author.Needs.{needs}
 use Rattle.bits.specs.Bit.{bit}
 use Rattle.expr.proofs.Values.{unequal-xor}
-use Rattle.expr.proofs.evaluation.value.Statement.{statement}
-use Rattle.expr.proofs.evaluation.value.Tie as tie
+use Rattle.expr.proofs.evaluation.deep.value.Statement.{statement}
+use Rattle.expr.proofs.evaluation.deep.value.Tie as tie
 
 enum-known-kind : tie.Need-enum-known-kind
 enum-known-kind c = search needs
