@@ -1,5 +1,6 @@
 -- Laws of evaluation's stack as one number: what a record makes of it, and what a walk over it knows. They rest on `packed` of the definitions and
 -- on the laws of Stack and Walk. Assumes nothing.
+--   digit-le                         == a truth value as a number is at most 1
 --   packed-some                      == the number of a stack is never 0
 --   repacked-leaf, repacked-unary, repacked-binary
 --                                    == the number that a record leaves, by what it makes of the number before it
@@ -10,25 +11,27 @@
 --   packing-end                      == at the end of the bytes one operand must be left, and it is the lowest bit
 use mathlib.Core.Bool.{Bool, true, false, not, _&&_, _||_}
 use mathlib.Core.List.{List, [], _∷_}
+use mathlib.Core.Logic.{_⊎_, inl, inr, ⊎-elim}
 use mathlib.Core.Option.{none, some}
 use mathlib.Core.Path.{_≡_, refl, sym, ap, _∙_}
 use Prim.Native.Nat.{ℕ, _+_, _-_, _*_, _/_, _%_, _≤_, _<_}
 use native.Mathlib.Omega.{arith}
 use lib.Dec.{eqb, ltb}
 use lib.ListN.{length}
-use borrow.Author.Tests.{ltb-true, ltb-false, ne-eqb, eq-eqb}
+use borrow.Author.Tests.{ltb-true, ltb-false, ne-eqb}
 use Rattle.bits.specs.Bit.{_⊕_, bit, digit}
+use Rattle.bits.proofs.Bit.{bit-first, digit-bit}
 use Rattle.rules.specs.Limits.{recordLimit, fewOperands}
 use Rattle.rules.specs.Machine.{push, binary, unary, made}
 use Rattle.rules.specs.Outcome.{Outcome, gives, refuses, _then_}
-use Rattle.rules.specs.Record.{Kind, Found}
+use Rattle.rules.specs.Record.{Found}
 use Rattle.rules.specs.Tree.{Tree, value}
 use Rattle.expr.specs.Answers.{arityOf, ended}
 use Rattle.expr.specs.Packed.{packed, repacked}
 use Rattle.expr.specs.Values.{evaluated}
 use Rattle.expr.proofs.Reader.{Read}
 use Rattle.expr.proofs.Stack.{operand, push-enough, push-few}
-use Rattle.expr.proofs.Walk.{Walk, walk-start, walk-step, walk-stack, walk-few, walk-end, grown}
+use Rattle.expr.proofs.Walk.{Walk, walk-start, walk-step, walk-stack, walk-few, walk-end}
 
 -- ---- tables
 
@@ -53,9 +56,9 @@ xor-table true false = refl
 xor-table false true = refl
 xor-table false false = refl
 
-pub digit-small : (b : Bool) → digit b < 2
-digit-small true = omega arith
-digit-small false = omega arith
+pub digit-le : (b : Bool) → digit b ≤ 1
+digit-le true = omega arith
+digit-le false = omega arith
 
 digit-not : (b : Bool) → 1 - digit b ≡ digit (not b)
 digit-not true = refl
@@ -80,7 +83,7 @@ module _ (at : ℕ) where
   unfolding packed repacked unary
   repacked-unary op law few turns [] e = few (omega arith)
   repacked-unary op law {stack} few turns (x ∷ ts) e =
-      let small = digit-small (value x at) in
+      let small = digit-le (value x at) in
       let some = packed-some ts in
       let low : stack % 2 ≡ digit (value x at) = omega arith in
       let high : stack / 2 ≡ packed at ts = omega arith in
@@ -92,10 +95,10 @@ module _ (at : ℕ) where
       → (ts : List Tree) → packed at ts ≡ stack → r ≡ repacked at (binary op ts)
   unfolding packed repacked binary
   repacked-binary op f law values table few joins [] e = few (omega arith)
-  repacked-binary op f law values table few joins (y ∷ []) e = few (omega (arith, digit-small (value y at)))
+  repacked-binary op f law values table few joins (y ∷ []) e = few (omega (arith, digit-le (value y at)))
   repacked-binary op f law values table {stack} few joins (y ∷ x ∷ ts) e =
-      let small = digit-small (value x at) in
-      let least = digit-small (value y at) in
+      let small = digit-le (value x at) in
+      let least = digit-le (value y at) in
       let some = packed-some ts in
       let low : stack % 4 ≡ 2 * digit (value x at) + digit (value y at) = omega arith in
       let high : stack / 4 ≡ packed at ts = omega arith in
@@ -112,39 +115,38 @@ pub packing-start : (n : ℕ) (s : List ℕ) (at : ℕ) → Packing n s at 0 0 1
 unfolding walk-start packed
 packing-start n s at = record { depth = 0; walk = walk-start n s; packs = refl }
 
+packing-some : {n : ℕ} {s : List ℕ} {at count place stack : ℕ} → Packing n s at count place stack → 0 < stack
+packing-some {at = at} w = omega (arith, packed-some at (w .walk .stack), w .packs)
+
 module _ {n : ℕ} {s : List ℕ} {at count place stack : ℕ} (w : Packing n s at count place stack) where
   module _ {r : Found} (f : Read n s place r) (l : count < recordLimit) (next : ℕ) (is : next ≡ repacked at (push (r .kind) (w .walk .stack))) where
-    lacks : w .depth < arityOf (r .kind) → next ≡ 0
+    -- an operand is lacking, or the machine goes on
+    turn : ((next ≡ 0) × (made n s ≡ refuses fewOperands place)) ⊎ Packing n s at (count + 1) (r .next) next
     unfolding repacked
-    lacks h = is ∙ ap (repacked at) (push-few (r .kind) (w .walk .stack) (omega (arith, w .walk .deep)))
-
-    module _ (base : ℕ) (h : base + arityOf (r .kind) ≡ w .depth) where
-      grows : packed at (walk-step (w .walk) f l base h .stack) ≡ next
-      unfolding repacked
-      grows = ap (packed at) (walk-stack (w .walk) f l base h)
-          ∙ sym (is ∙ ap (repacked at) (push-enough (r .kind) (w .walk .stack) base (omega (arith, w .walk .deep))))
+    turn = go (ltb (w .depth) (arityOf (r .kind))) refl
+      where
+        go : (b : Bool) → ltb (w .depth) (arityOf (r .kind)) ≡ b
+            → ((next ≡ 0) × (made n s ≡ refuses fewOperands place)) ⊎ Packing n s at (count + 1) (r .next) next
+        go true q =
+            let few : w .depth < arityOf (r .kind) = ltb-true _ _ q in
+            inl (is ∙ ap (repacked at) (push-few (r .kind) (w .walk .stack) (omega (arith, w .walk .deep))), walk-few (w .walk) f l few)
+        go false q =
+            let enough : arityOf (r .kind) ≤ w .depth = ltb-false _ _ q in
+            let base : ℕ = w .depth - arityOf (r .kind) in
+            let h : base + arityOf (r .kind) ≡ w .depth = omega arith in
+            inr
+            record {
+              depth = base + 1;
+              walk = walk-step (w .walk) f l base h;
+              packs = ap (packed at) (walk-stack (w .walk) f l base h)
+                  ∙ sym (is ∙ ap (repacked at) (push-enough (r .kind) (w .walk .stack) base (omega (arith, w .walk .deep))));
+            }
 
     pub packing-few : next ≡ 0 → made n s ≡ refuses fewOperands place
-    packing-few z = go (ltb (w .depth) (arityOf (r .kind))) refl
-      where
-        go : (b : Bool) → ltb (w .depth) (arityOf (r .kind)) ≡ b → made n s ≡ refuses fewOperands place
-        go true q = walk-few (w .walk) f l (ltb-true _ _ q)
-        go false q =
-            let enough : arityOf (r .kind) ≤ w .depth = ltb-false _ _ q in
-            let base : ℕ = w .depth - arityOf (r .kind) in
-            let h : base + arityOf (r .kind) ≡ w .depth = omega arith in
-            absurd (omega (arith, grows base h, packed-some at (walk-step (w .walk) f l base h .stack)))
+    packing-few z = ⊎-elim (λ lacks. lacks .1) (λ on. absurd (omega (arith, packing-some on))) turn
 
     pub packing-step : 0 < next → Packing n s at (count + 1) (r .next) next
-    packing-step p = go (ltb (w .depth) (arityOf (r .kind))) refl
-      where
-        go : (b : Bool) → ltb (w .depth) (arityOf (r .kind)) ≡ b → Packing n s at (count + 1) (r .next) next
-        go true q = absurd (omega (arith, lacks (ltb-true _ _ q)))
-        go false q =
-            let enough : arityOf (r .kind) ≤ w .depth = ltb-false _ _ q in
-            let base : ℕ = w .depth - arityOf (r .kind) in
-            let h : base + arityOf (r .kind) ≡ w .depth = omega arith in
-            record { depth = base + 1; walk = walk-step (w .walk) f l base h; packs = grows base h }
+    packing-step p = ⊎-elim (λ lacks. absurd (omega (arith, lacks .0))) (λ on. on) turn
 
   pub packing-end : length s ≤ place → evaluated n s at ≡ ended (stack / 2) (length s) (gives (digit (eqb (stack % 2) 1)))
   unfolding evaluated packed operand
@@ -158,14 +160,10 @@ module _ {n : ℕ} {s : List ℕ} {at count place stack : ℕ} (w : Packing n s 
           ≡ ended (stack / 2) (length s) (gives (digit (eqb (stack % 2) 1)))
       go [] e = let none : stack / 2 ≡ 0 = omega arith in rw none
       go (t ∷ []) e =
-          let small = digit-small (value t at) in
+          let small = digit-le (value t at) in
           let one : stack / 2 ≡ 1 = omega arith in
-          let low : stack % 2 ≡ digit (value t at) = omega arith in
-          rw (one, low) (bool (value t at))
-        where
-          bool : (b : Bool) → gives (digit b) ≡ gives (digit (eqb (digit b) 1))
-          bool true = refl
-          bool false = refl
+          let low : digit (eqb (stack % 2) 1) ≡ digit (value t at) = omega (arith, ap digit (sym (bit-first stack)), digit-bit stack 0) in
+          rw (one, low)
       go (t ∷ u ∷ ts) e =
           let some = packed-some at ts in
           let more : 2 ≤ stack / 2 = omega arith in

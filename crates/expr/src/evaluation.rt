@@ -1,4 +1,5 @@
-// Evaluation of an expression at one setting.
+// Evaluation of an expression at one setting. Its walk keeps the truth values on the stack as the bits of a number (`packed_stack`), and where a
+// number is too narrow, an array holds them (`deep`).
 use crate::Reading;
 use crate::evaluation::packed_stack::after;
 use crate::read;
@@ -23,7 +24,7 @@ ghost use Rattle.rules.specs.Outcome.{gives};
 ghost use Rattle.expr.specs.Answers.{ended};
 ghost use Rattle.expr.specs.Values.{evaluationOf, evaluated};
 
-// No value more fits on a stack whose leading one is the highest bit.
+// A stack is full where its leading one is the highest bit: no value more fits.
 const FULL: usize = 0x8000000000000000;
 
 // An expression's value at a setting, 0 or 1, or the refusal.
@@ -52,7 +53,7 @@ pub fn evaluate(flags: usize, bytes: &[u8], setting: usize) -> Evaluation
     walk(flags, bytes, setting)
 }
 
-// The records in turn over a stack of truth values that is the bits of one number; a stack that fills it is left to the array.
+// The records in turn over a stack of truth values that is one number; an expression that fills it is walked anew over an array.
 fn walk(flags: usize, bytes: &[u8], setting: usize) -> Evaluation
     requires { ⌜ flags ≤ ruleFlags ⌝ }
     ensures { λ r. ⌜ evaluationOf r ≡ evaluated flags (now (bytes .entry)) setting ⌝ }

@@ -1,4 +1,4 @@
-// Evaluation over an array of truth values, for stacks of any height: it walks the records from the first one on.
+// Evaluation over an array of truth values, which holds the stack of any expression. It walks the records from the first one on.
 use crate::Kind;
 use crate::Reading;
 use crate::arity;

@@ -33,7 +33,7 @@ fn laid(stack: usize, value: bool) -> usize
     stack * 2 + (value as usize)
 }
 
-// The two topmost values joined by an operator, whose value table has a bit for each pair of operands; or 0.
+// The two topmost values joined by an operator, whose value at the operands x and y is bit 2x + y of `values`; 0 where there are not two.
 fn joined(stack: usize, values: usize) -> usize
     ensures few { λ r. ⌜ (stack < 4 → r ≡ 0) ⌝ }
     ensures joins { λ r. ⌜ (4 ≤ stack → r ≡ 2 * (stack / 4) + digit (bit values (stack % 4))) ⌝ }
@@ -44,7 +44,7 @@ fn joined(stack: usize, values: usize) -> usize
     stack / 4 * 2 + (values >> (stack % 4)) % 2
 }
 
-// The topmost value turned, or 0.
+// The topmost value turned; 0 where there is none.
 fn turned(stack: usize) -> usize
     ensures few { λ r. ⌜ (stack < 2 → r ≡ 0) ⌝ }
     ensures turns { λ r. ⌜ (2 ≤ stack → r ≡ 2 * (stack / 2) + (1 - stack % 2)) ⌝ }

@@ -1,6 +1,6 @@
 -- `expr::evaluation::walk` meets its contract. The loop's invariant: the number is that of the machine's stack. The measure is the number of
 -- records that may still begin. Each way out is one law of Packed or Walk, and a full stack is answered by the walk over an array. Assumes nothing.
-use mathlib.Core.Path.{_≡_, refl, sym, ap, _∙_}
+use mathlib.Core.Path.{_≡_, sym, ap, _∙_}
 use Prim.Native.Nat.{_-_}
 use native.Mathlib.Omega.{arith}
 use denote.Ref.{now}

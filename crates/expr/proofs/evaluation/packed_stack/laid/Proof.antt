@@ -1,7 +1,7 @@
 -- `expr::evaluation::packed_stack::laid` meets its contract: a truth value as a number is its digit. Assumes nothing.
 use native.Mathlib.Omega.{arith}
 use borrow.Author.Needs.{needs}
-use Rattle.expr.proofs.Packed.{digit-small}
+use Rattle.expr.proofs.Packed.{digit-le}
 use Rattle.expr.proofs.Values.{byte-digit}
 use Rattle.expr.proofs.evaluation.packed_stack.laid.Statement.{statement}
 use Rattle.expr.proofs.evaluation.packed_stack.laid.Tie as tie
@@ -13,7 +13,7 @@ cast-result : tie.Need-cast-result
 cast-result c = search needs
 
 add-result : tie.Need-add-result
-add-result c = omega (arith, byte-digit (c .args .value), digit-small (c .args .value))
+add-result c = omega (arith, byte-digit (c .args .value), digit-le (c .args .value))
 
 returns : tie.Need-returns
 returns c = omega (arith, byte-digit (c .args .value))
