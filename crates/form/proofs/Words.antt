@@ -5,8 +5,9 @@
 --   pair-positive, pair-word                     == the two monomials of a form that has two
 --   family-word                                  == whether the form is a whole family
 --   uncovered-word, without-word                 == the masks that do not contain a cube, and those outside a family
---   covered-word, stripped-word                  == those that contain a cube, whole and stripped
-use mathlib.Core.Bool.{Bool, true, not, _&&_}
+--   stripped-word                                == those that contain a cube, stripped
+--   covered-literals                             == the literals of the monomials that contain a cube
+use mathlib.Core.Bool.{Bool, true, not, _&&_, and-comm}
 use mathlib.Core.List.{List, [], _∷_, map}
 use mathlib.Core.Path.{_≡_, sym, ap, _∙_}
 use Prim.Native.Nat.{ℕ, _-_, _*_, _/_, _%_, _^_, _<_}
@@ -21,15 +22,17 @@ use Rattle.bits.specs.Range.{keep, upto, mem, same}
 use Rattle.bits.specs.Word.{places, word}
 use Rattle.bits.proofs.Bit.{digit-bit}
 use Rattle.bits.proofs.Mask.{within-le}
-use Rattle.bits.proofs.Range.{keep-ext}
+use Rattle.bits.proofs.Range.{keep-ext, keep-keep}
 use Rattle.bits.proofs.Ascending.{below-mem}
 use Rattle.bits.proofs.Word.{below-places, ones-places}
 use Rattle.bits.proofs.Places.{places-and}
 use Rattle.bits.proofs.Sets.{mem-bit, places-and-not, places-even, places-shr, places-positive, places-two, same-places}
 use Rattle.rules.specs.Cleanup.{family, singles, isFamily, covered, stripped}
+use Rattle.rules.specs.Form.{literals}
 use Rattle.rules.specs.Monomial.{constant, monomials}
 use Rattle.rules.proofs.Covered.{covered-keep, covered-within}
 use Rattle.rules.proofs.Family.{ascending-family}
+use Rattle.rules.proofs.Literals.{literals-monomials}
 use Rattle.form.specs.Masks.{familyWords, supersetWords}
 use Rattle.form.proofs.Entries.{getD-families, getD-supersets, bit-family, below-family, family-lt, bit-superset, superset-lt}
 use Rattle.form.proofs.Flags.{singles-lt}
@@ -45,12 +48,22 @@ module _ (w : ℕ) where
         ap (λ (x : ℕ). places 64 (bitAnd w ((2 ^ 64 - 1) - x))) (getD-supersets c k) ∙ places-and-not 64 w v (superset-lt c)
         ∙ keep-ext (λ m. not (bit v m)) (λ m. not (within c m)) (places 64 w) (λ m e. ap not (bit-superset c m (in-word m e)))
 
-    pub covered-word : 0 < c → places 64 (bitAnd w (getD supersetWords c 0)) ≡ covered c (places 64 w)
-    covered-word p =
+    containing-word : places 64 (bitAnd w (getD supersetWords c 0)) ≡ keep (λ m. within c m) (places 64 w)
+    containing-word =
         let v = word (keep (within c) (upto 64)) in
         ap (λ (x : ℕ). places 64 (bitAnd w x)) (getD-supersets c k) ∙ places-and 64 w v
         ∙ keep-ext (bit v) (λ m. within c m) (places 64 w) (λ m e. bit-superset c m (in-word m e))
-        ∙ sym (covered-keep c p (places 64 w))
+
+    -- the constant, which a cube of no flag covers too, has no literal
+    pub covered-literals : literals (places 64 (bitAnd w (getD supersetWords c 0))) ≡ literals (covered c (places 64 w))
+    unfolding covered
+    covered-literals =
+        let l = places 64 w in
+        ap literals containing-word ∙ sym (literals-monomials (keep (λ m. within c m) l))
+        ∙ ap literals
+        (keep-keep (λ m. ltb 0 m) (λ m. within c m) l
+        ∙ keep-ext (λ m. within c m && ltb 0 m) (λ m. ltb 0 m && within c m) l (λ m e. and-comm (within c m) (ltb 0 m))
+        ∙ sym (keep-keep (λ m. within c m) (λ m. ltb 0 m) l))
 
     pub without-word : places 64 (bitAnd w ((2 ^ 64 - 1) - getD familyWords c 0)) ≡ keep (λ m. not (mem m (family c))) (places 64 w)
     without-word =
@@ -94,6 +107,6 @@ module _ (w : ℕ) (h : w < 2 ^ 64) where
   stripped-word c p k =
       let v = bitAnd w (getD supersetWords c 0) in
       let s : v < 2 ^ 64 = lt-of-le-of-lt (and-le-l w (getD supersetWords c 0)) h in
-      places-shr 64 v c s
-      (λ i e. within-le c i (covered-within c (places 64 w) i (ap (mem i) (sym (covered-word w c k p)) ∙ mem-bit 64 v i s ∙ e)))
-      ∙ ap (map (λ m. m - c)) (covered-word w c k p)
+      let e = containing-word w c k ∙ sym (covered-keep c p (places 64 w)) in
+      places-shr 64 v c s (λ i b. within-le c i (covered-within c (places 64 w) i (ap (mem i) (sym e) ∙ mem-bit 64 v i s ∙ b)))
+      ∙ ap (map (λ m. m - c)) e

@@ -118,7 +118,7 @@ impl Form {
 
     // The total number of flags in the monomials that contain the whole cube.
     pub fn covered_literals(self, cube: usize, supersets: &[u64; 64]) -> usize
-        requires { ⌜ (now supersets ≡ supersetWords) × (0 < cube) × (cube < 64) ⌝ }
+        requires { ⌜ (now supersets ≡ supersetWords) × (cube < 64) ⌝ }
         ensures { λ r. ⌜ r ≡ raw.literals (paper.covered cube (masks self)) ⌝ }
     {
         anf_form::literals(self.word & supersets[cube])

@@ -1,4 +1,4 @@
--- `form::Form::covered_literals` meets its contract by the law of covered words. Assumes nothing.
+-- `form::Form::covered_literals` meets its contract by the law of the literals that a cube covers. Assumes nothing.
 use mathlib.Core.List.{List}
 use mathlib.Core.Path.{ap, _∙_}
 use Prim.Native.Nat.{ℕ}
@@ -7,7 +7,7 @@ use lib.Bits.{bitAnd}
 use lib.ListN.{getD}
 use Rattle.bits.specs.Word.{places}
 use Rattle.rules.specs.Form.{literals}
-use Rattle.form.proofs.Words.{covered-word}
+use Rattle.form.proofs.Words.{covered-literals}
 use Rattle.form.proofs.Form.covered_literals.Statement.{statement}
 use Rattle.form.proofs.Form.covered_literals.Tie as tie
 
@@ -26,7 +26,7 @@ returns c =
     let w = s .args .self .word in
     let k = s .args .cube in
     c .literals .ensures
-    ∙ ap literals (ap (λ (t : List ℕ). places 64 (bitAnd w (getD t k 0))) (s .pre .0) ∙ covered-word w k (s .pre .2) (s .pre .1))
+    ∙ ap (λ (t : List ℕ). literals (places 64 (bitAnd w (getD t k 0)))) (s .pre .0) ∙ covered-literals w k (s .pre .1)
 
 pub covered-literals-spec : {M : Type 1} → statement M
 covered-literals-spec = tie.close (tie.spec mul-literals element-copy-out-literals literals-requires returns)
