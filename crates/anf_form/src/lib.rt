@@ -10,7 +10,7 @@ use rules::SHORT_OUTPUT;
 use rules::STRAY_COEFFICIENT;
 use rules::TOO_MANY_FLAGS;
 ghost use mathlib.Core.Path.{_≡_};
-ghost use Prim.Native.Nat.{ℕ, _≤_, _<_, _^_};
+ghost use Prim.Native.Nat.{_≤_, _<_};
 ghost use lib.ListN.{length};
 ghost use lib.Seq.{sets};
 ghost use Rattle.bits.specs.Word.{places};

@@ -1,6 +1,6 @@
 -- Masks as sets: a number stands for the set of its bits, `within` is inclusion and `ones` the size.
 -- It rests on the laws of bits (Bit), of truth values (Truth), and on lib.Bits and lib.Count. Assumes nothing.
---   within-bit, bits-within, not-within                  == inclusion by members, and a member that is missing
+--   within-bit, bits-within                              == inclusion by members
 --   within-le, within-zero, zero-within                  == a part is no greater; nothing is in all, and only nothing is in nothing
 --   within-refl, within-trans, within-antisym            == an order
 --   within-block                                         == two runs of digits apart
@@ -9,7 +9,7 @@
 --   within-or, within-and                                == a union within, and within an intersection
 --   sub-xor, bit-sub, sub-disjoint                       == what a part leaves of the whole
 --   bit-add, within-add, within-split                    == sets with no common member add
---   ones-add, ones-sub, ones-within                      == sizes add, and a part has no more members
+--   ones-add, ones-sub                                   == sizes add
 --   ones-zero, ones-pos, ones-pow, one-is-pow            == sizes 0 and 1
 use mathlib.Core.Path.{_≡_, refl, sym, ap, ap₂, _∙_}
 use mathlib.Core.Bool.{Bool, true, false, not, _&&_, _||_, false≢true}
@@ -23,10 +23,10 @@ use lib.Arith.{bin-ind}
 use lib.Bits.{bitAnd, bitOr, bitXor, and-self, and-comm, and-le-l, and-le-r, and-step, and-block, or-disjoint, xor-add-and}
 use lib.Count.{ones, ones-step, ones-cat}
 use lib.Pow.{pow-pos, high, low}
-use borrow.Author.Tests.{eqb-true, eqb-false, eq-eqb}
+use borrow.Author.Tests.{eqb-true, eq-eqb}
 use Rattle.bits.specs.Bit.{bit, digit, within, _⊕_}
 use Rattle.bits.proofs.Truth.{and-intro, and-true-l, and-true-r, bool-ext}
-use Rattle.bits.proofs.Bit.{bit-and, bit-or, bit-xor, bit-zero, bit-pow, bits-eq, nonzero-bit, lt-pow}
+use Rattle.bits.proofs.Bit.{bit-and, bit-or, bit-xor, bit-zero, bit-pow, bits-eq}
 
 -- ---- inclusion by members
 
@@ -44,27 +44,6 @@ absorb false q f = refl
 pub bits-within : (s m : ℕ) → ((i : ℕ) → bit s i ≡ true → bit m i ≡ true) → within s m ≡ true
 unfolding within
 bits-within s m f = eq-eqb (bitAnd s m) s (bits-eq (bitAnd s m) s (λ i. bit-and s m i ∙ absorb (bit s i) (bit m i) (f i)))
-
-xor-zero : (a b : ℕ) → bitXor a b ≡ 0 → a ≡ b
-xor-zero a b e = omega (arith, xor-add-and a b, and-le-l a b, and-le-r a b)
-
-missing : (p q : Bool) → p ⊕ (p && q) ≡ true → (p ≡ true) × (q ≡ false)
-missing true true e = (refl, sym e)
-missing true false e = (refl, refl)
-missing false q e = absurd (false≢true e)
-
-pub not-within : (s m : ℕ) → within s m ≡ false → (i : ℕ) × (bit s i ≡ true) × (bit m i ≡ false)
-unfolding within
-not-within s m h = go (eq-zero-or-pos (bitXor s (bitAnd s m)))
-  where
-    go : (bitXor s (bitAnd s m) ≡ 0) ⊎ (0 < bitXor s (bitAnd s m)) → (i : ℕ) × (bit s i ≡ true) × (bit m i ≡ false)
-    go (inl e) = absurd (eqb-false (bitAnd s m) s h (sym (xor-zero s (bitAnd s m) e)))
-    go (inr p) =
-        let d = bitXor s (bitAnd s m) in
-        let t = nonzero-bit d d (lt-pow d) p in
-        let i = t .0 in
-        let r = missing (bit s i) (bit m i) (ap (λ (x : Bool). bit s i ⊕ x) (sym (bit-and s m i)) ∙ sym (bit-xor s (bitAnd s m) i) ∙ t .2) in
-        (i, r .0, r .1)
 
 pub within-le : (s m : ℕ) → within s m ≡ true → s ≤ m
 within-le s m h = omega (arith, meet s m h, and-le-r s m)
@@ -231,9 +210,6 @@ ones-sub c m h =
     let l = within-le c m h in
     let e : m ≡ c + (m - c) = omega arith in
     omega (arith, ones-add c (m - c) (sub-disjoint c m h), ap ones e)
-
-pub ones-within : (a b : ℕ) → within a b ≡ true → ones a ≤ ones b
-ones-within a b h = omega (arith, ones-sub a b h)
 
 pub ones-zero : (m : ℕ) → ones m ≡ 0 → m ≡ 0
 ones-zero = bin-ind (λ (m : ℕ). ones m ≡ 0 → m ≡ 0) (λ e. refl) (λ m ih e. let s = ones-step m in let h = ih (omega arith) in omega arith)

@@ -7,7 +7,7 @@
 --   …-append, …-map                             == keep, all, any and mem of ++, and of a mapped list
 --   keep-keep, any-keep                         == keep after keep, any after keep
 --   keep-all, keep-none, …-ext                  == keep where all pass or none does; tests that agree at the members choose alike
---   length-keep, length-split                   == lengths of what is kept
+--   length-keep                                 == the length of what is kept
 --   mem-keep, mem-from, mem-upto                == who is a member
 --   mem-head, mem-tail, mem-cons                == the first, those behind it, and no others
 --   all-mem, mem-all, any-mem, mem-any          == all and any, at members
@@ -112,15 +112,6 @@ module _ {A : Type 0} (p : A → Bool) where
   unfolding keep
   length-keep [] = le-refl 0
   length-keep (x ∷ l) = put-length (p x) x (keep p l) (length l) (length-keep l)
-
-  put-split : (b : Bool) (x : A) (r s : List A) → length (put b x r) + length (put (not b) x s) ≡ suc (length r + length s)
-  put-split true x r s = suc-add (length r) (length s)
-  put-split false x r s = add-suc (length r) (length s)
-
-  pub length-split : (l : List A) → length (keep p l) + length (keep (λ x. not (p x)) l) ≡ length l
-  unfolding keep
-  length-split [] = refl
-  length-split (x ∷ l) = put-split (p x) x (keep p l) (keep (λ y. not (p y)) l) ∙ ap suc (length-split l)
 
   put-keep : (b : Bool) (x : A) (r : List A) → keep p (put b x r) ≡ put (b && p x) x (keep p r)
   unfolding keep

@@ -2,14 +2,13 @@
 -- Assumes nothing.
 --   one-shl      == a one shifted to place k
 --   bit-shl-in   == the bits of a word shifted to the left
-use mathlib.Core.Bool.{Bool, true, false, _&&_}
-use mathlib.Core.Path.{_≡_, refl, sym, ap, _∙_}
-use Prim.Native.Nat.{ℕ, _+_, _-_, _*_, _%_, _^_, _≤_, _<_}
+use mathlib.Core.Bool.{false}
+use mathlib.Core.Path.{_≡_, _∙_}
+use Prim.Native.Nat.{ℕ, _-_, _*_, _%_, _^_, _≤_, _<_}
 use native.Mathlib.Nat.{one-mul}
 use native.Mathlib.Omega.{arith}
-use lib.Dec.{lit<, leb}
+use lib.Dec.{lit<}
 use lib.Pow.{shl-exact}
-use borrow.Author.Tests.{le-leb, lt-leb}
 use Rattle.bits.specs.Bit.{bit}
 use Rattle.bits.proofs.Bit.{bit-mod, bit-shl, bit-shl-low}
 

@@ -3,17 +3,17 @@
 --   Commutes op e                              == op regroups and commutes, and e is its unit
 --   plus-laws, xor-laws, or-laws               == the three operations
 --   sum-map, sum-ext, sum-ext-mem              == a sum's list and its terms, replaced
---   sum-keep, sum-all-none                     == the sum over a choice
+--   sum-keep                                   == the sum over a choice
 --   sum-append, sum-unit, sum-op               == the sum over ++, of units, of two sums' terms
 --   sum-swap, sum-split                        == a sum of sums the other way round; the chosen and the others
 --   parity-and, parity-keep                    == a common factor; a choice as a factor
---   total-mono, total-keep-le, total-mul       == order, choices and multiples of totals
+--   total-mono, total-keep-le                  == order and choices of totals
 --   bit-union, union-within, union-mem         == the bits of a union; it is within m where all its members are; its members are within it
 use mathlib.Core.Bool.{Bool, true, false, not, _&&_, _||_, or-assoc}
 use mathlib.Core.List.{List, [], _∷_, _++_, map}
 use mathlib.Core.Path.{_≡_, refl, sym, ap, ap₂, _∙_}
-use Prim.Native.Nat.{ℕ, _+_, _*_, _≤_}
-use native.Mathlib.Nat.{zero-add, add-assoc, add-comm, add-le-add, mul-zero, mul-add, le-refl}
+use Prim.Native.Nat.{ℕ, _+_, _≤_}
+use native.Mathlib.Nat.{zero-add, add-assoc, add-comm, add-le-add, le-refl}
 use native.Mathlib.Omega.{arith}
 use lib.Bits.{bitOr, or-comm}
 use Rattle.bits.specs.Bit.{_⊕_, bit, within}
@@ -22,7 +22,7 @@ use Rattle.bits.specs.Sum.{sum, total, parity, union}
 use Rattle.bits.proofs.Truth.{xor-assoc, xor-comm}
 use Rattle.bits.proofs.Bit.{bit-or, bit-zero, bits-eq}
 use Rattle.bits.proofs.Mask.{within-zero, within-or, within-refl}
-use Rattle.bits.proofs.Range.{keep-none, mem-head, mem-tail, all-mem}
+use Rattle.bits.proofs.Range.{mem-head, mem-tail, all-mem}
 
 pub record Commutes {B : Type 0} (op : B → B → B) (e : B) : Type 0 where
   pub assoc : (a b c : B) → op (op a b) c ≡ op a (op b c)
@@ -56,10 +56,6 @@ module _ {B : Type 0} (op : B → B → B) (e : B) where
   unfolding sum
   sum-ext-mem f g [] h = refl
   sum-ext-mem f g (x ∷ l) h = ap₂ op (h x (mem-head x l)) (sum-ext-mem f g l (λ y m. h y (mem-tail x l y m)))
-
-  pub sum-all-none : {A : Type 0} (f : A → B) (p : A → Bool) (l : List A) → all (λ x. not (p x)) l ≡ true → sum op e f (keep p l) ≡ e
-  unfolding sum
-  sum-all-none f p l h = ap (sum op e f) (keep-none p l h)
 
 abbrev only : {B : Type 0} → B → Bool → B → B
 only e b y = elim b [ true ↦ y | false ↦ e ]
@@ -131,11 +127,6 @@ module _ {A : Type 0} where
   unfolding sum
   total-mono f g [] h = le-refl 0
   total-mono f g (x ∷ l) h = add-le-add (h x) (total-mono f g l h)
-
-  pub total-mul : (c : ℕ) (f : A → ℕ) (l : List A) → total (λ x. c * f x) l ≡ c * total f l
-  unfolding sum
-  total-mul c f [] = sym (mul-zero c)
-  total-mul c f (x ∷ l) = ap (λ (n : ℕ). c * f x + n) (total-mul c f l) ∙ sym (mul-add c (f x) (total f l))
 
   pub total-keep-le : (f : A → ℕ) (p : A → Bool) (l : List A) → total f (keep p l) ≤ total f l
   total-keep-le f p l = let h = sum-split plus-laws f p l in omega arith

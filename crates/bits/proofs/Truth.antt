@@ -1,14 +1,12 @@
 -- Laws of truth values: exclusive or beside `&&`, and what a true conjunction tells. It rests on the two constructors alone. Assumes nothing.
---   xor-assoc, xor-comm, xor-false, xor-self, xor-swap  == ⊕ regroups, commutes, has the unit false, and each value undoes itself
+--   xor-assoc, xor-comm, xor-false, xor-self            == ⊕ regroups, commutes, has the unit false, and each value undoes itself
 --   xor-cancel, xor-same                                == a ⊕ (a ⊕ b) is b; a ⊕ b is false only of equals
---   and-xor                                             == && goes into ⊕
 --   and-intro, and-true-l, and-true-r, or-split         == a conjunction is true where both sides are, a disjunction where one is
---   decide, bool-ext, digit-inj                         == a value is true or false; two values true together are equal, and so are two of one digit
+--   decide, bool-ext                                    == a value is true or false; two values true together are equal
 use mathlib.Core.Bool.{Bool, true, false, _&&_, _||_}
 use mathlib.Core.Logic.{_⊎_, inl, inr}
-use mathlib.Core.Path.{_≡_, refl, sym, ap, _∙_}
-use native.Mathlib.Omega.{arith}
-use Rattle.bits.specs.Bit.{_⊕_, digit}
+use mathlib.Core.Path.{_≡_, refl, sym}
+use Rattle.bits.specs.Bit.{_⊕_}
 
 pub xor-assoc : (a b c : Bool) → (a ⊕ b) ⊕ c ≡ a ⊕ (b ⊕ c)
 xor-assoc true true true = refl
@@ -34,18 +32,10 @@ xor-cancel true true = refl
 xor-cancel true false = refl
 xor-cancel false b = refl
 
-pub xor-swap : (a b c d : Bool) → (a ⊕ b) ⊕ (c ⊕ d) ≡ (a ⊕ c) ⊕ (b ⊕ d)
-xor-swap a b c d =
-    xor-assoc a b (c ⊕ d) ∙ ap (λ (x : Bool). a ⊕ x) (sym (xor-assoc b c d) ∙ ap (λ (x : Bool). x ⊕ d) (xor-comm b c) ∙ xor-assoc c b d) ∙ sym (xor-assoc a c (b ⊕ d))
-
 pub xor-same : (a b : Bool) → a ⊕ b ≡ false → a ≡ b
 xor-same true true e = refl
 xor-same true false e = e
 xor-same false b e = sym e
-
-pub and-xor : (a b c : Bool) → a && (b ⊕ c) ≡ (a && b) ⊕ (a && c)
-and-xor true b c = refl
-and-xor false b c = refl
 
 pub and-intro : (a b : Bool) → a ≡ true → b ≡ true → (a && b) ≡ true
 and-intro true b p q = q
@@ -72,9 +62,3 @@ pub bool-ext : (a b : Bool) → (a ≡ true → b ≡ true) → (b ≡ true → 
 bool-ext true b f g = sym (f refl)
 bool-ext false true f g = g refl
 bool-ext false false f g = refl
-
-pub digit-inj : (a b : Bool) → digit a ≡ digit b → a ≡ b
-digit-inj true true e = refl
-digit-inj true false e = absurd (omega arith)
-digit-inj false true e = absurd (omega arith)
-digit-inj false false e = refl

@@ -3,7 +3,7 @@
 --   below g w x  == g x where x measures less than w, and the default d elsewhere
 --   fixed w      == the rule's value at w
 -- `fixed w ≡ step (below fixed w) w` is the law `fixed-step` of proofs/Fixed.
-use mathlib.Core.Bool.{Bool, true, false}
+use mathlib.Core.Bool.{true, false}
 use Prim.Native.Nat.{ℕ, zero, suc}
 use lib.Dec.{ltb}
 

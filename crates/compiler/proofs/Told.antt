@@ -7,11 +7,11 @@
 --   told-room, told-expression       == past them, row 5 and the expression of the compiled tree
 --   expressed, told-written          == that expression's counts; with room for 963 bytes the promises leave no other answer and no other buffer
 use mathlib.Core.List.{List}
-use mathlib.Core.Path.{_≡_, refl, sym, ap, ap₂, _∙_}
+use mathlib.Core.Path.{_≡_, sym, ap, ap₂, _∙_}
 use Prim.Native.Nat.{ℕ, _^_, _≤_, _<_}
 use native.Mathlib.Omega.{arith}
 use lib.ListN.{length, getD, take}
-use lib.Seq.{sets, getD-take}
+use lib.Seq.{sets}
 use Rattle.bits.proofs.Stores.{take-sets-front}
 use Rattle.rules.specs.Calls as paper
 use Rattle.rules.specs.Cleanup.{cleanup}

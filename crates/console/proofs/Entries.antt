@@ -1,17 +1,16 @@
 -- Entries of a table in bytes: how many there are, and the bit that counts. It rests on the definitions of rules' Console and Table. Assumes nothing.
 --   length-entries   == a cut last entry doesn't count
 --   entry-entries    == bit 0 of an entry is bit 0 of its low byte
-use mathlib.Core.Bool.{Bool}
-use mathlib.Core.List.{List, map}
-use mathlib.Core.Path.{_≡_, refl, sym, ap, _∙_}
-use Prim.Native.Nat.{ℕ, _+_, _*_, _/_, _%_, _^_, _<_}
+use mathlib.Core.List.{List}
+use mathlib.Core.Path.{_≡_, sym, ap, _∙_}
+use Prim.Native.Nat.{ℕ, _+_, _*_, _/_, _%_, _<_}
 use native.Mathlib.Omega.{arith}
 use native.Mathlib.Nat.{add-zero}
 use lib.Dec.{eqb}
 use lib.ListN.{length, getD}
-use Rattle.bits.specs.Bit.{bit, digit}
-use Rattle.bits.specs.Range.{from, upto}
-use Rattle.bits.specs.Sum.{sum, total}
+use Rattle.bits.specs.Bit.{bit}
+use Rattle.bits.specs.Range.{from}
+use Rattle.bits.specs.Sum.{sum}
 use Rattle.bits.proofs.Bit.{bit-first}
 use Rattle.rules.specs.Console.{entryAt, entries}
 use Rattle.rules.specs.Table.{entry}

@@ -6,13 +6,13 @@
 --   push-enough, push-few    == what a record does to the stack, where it finds its operands and where it does not
 --   total-two, total-one     == what the operands of a record add to a total over the stack
 --   total-single             == the total over a stack of one tree
---   size-push, size-operand  == a record adds one to the stack's size; a tree on the stack is no larger than the stack
+--   size-push                == a record adds one to the stack's size
 --   image-empty, image-push  == the image of no tree; one store keeps the image up with a record
 use mathlib.Core.Bool.{Bool, true, false}
 use mathlib.Core.List.{List, [], _∷_}
 use mathlib.Core.Option.{none, some}
 use mathlib.Core.Path.{_≡_, refl, sym, ap, _∙_}
-use Prim.Native.Nat.{ℕ, zero, suc, _+_, _≤_, _<_}
+use Prim.Native.Nat.{ℕ, zero, suc, _+_, _<_}
 use native.Mathlib.Nat.{add-zero}
 use native.Mathlib.Omega.{arith}
 use lib.Dec.{eqb}
@@ -126,18 +126,6 @@ size-push And ts base h = omega (arith, total-two size ts base h)
 size-push Or ts base h = omega (arith, total-two size ts base h)
 size-push Xor ts base h = omega (arith, total-two size ts base h)
 size-push Not ts base h = omega (arith, total-one size ts base h)
-
-pub size-operand : (ts : List Tree) (i : ℕ) → i < length ts → size (operand ts i) ≤ total size ts
-unfolding sum
-size-operand [] i h = absurd (omega arith)
-size-operand (t ∷ ts) i h = go (size-operand ts i) (eqb i (length ts)) refl
-  where
-    go : (i < length ts → size (operand ts i) ≤ total size ts) → (b : Bool) → eqb i (length ts) ≡ b
-        → size (operand (t ∷ ts) i) ≤ size t + total size ts
-    go rest true e = rw (operand-top t ts i (eqb-true i (length ts) e)) (omega arith)
-    go rest false e =
-        let below : i < length ts = omega (arith, eqb-false i (length ts) e) in
-        rw (operand-below t ts i below) (omega (arith, rest below))
 
 -- ---- images
 

@@ -1,12 +1,12 @@
 -- Laws of a walk over an expression's records: what a loop knows when it has read some records from the front, how one more record changes
 -- that, and what each way to leave the loop says of `made`, the expression's tree or its refusal. They hold for every walk, whatever its stack
--- holds: `e` is what the walk keeps of a tree. They rest on the laws of Stack and Reader. Assumes nothing.
+-- holds: `e` is what the walk keeps of a tree. They rest on the machine's turns (rules, Run) and on the laws of Stack and Reader. Assumes nothing.
 --   Walk n s count place depth           == count records are read, up to place, and the machine's stack is depth deep there
 --   Walked e n s count place depth a     == so, and the array a holds e of the stack's trees
 --   Folds e f                            == f k gives e of a record's tree from e of its operands, of those that the kind k has
 --   tree w i, grown w k base             == the stack's tree at place i; the tree of a record of kind k over the operands from place base on
 --   walk-start, walk-step                == before the first record; one record more
---   walk-tree, walk-size                 == a tree on the stack has no more records than are read, and so has the new one
+--   walk-size                            == a record's tree has no more records than are read
 --   walk-stack                           == what a record leaves on the machine's stack
 --   walk-image                           == one store keeps an array up with a record
 --   walk-few, walk-refused, walk-many    == too few operands, a refusal of the reader, and a record too many refuse the expression
@@ -14,23 +14,23 @@
 --   walked-start, walked-step, walked-at, walked-end    == the same with the array, for a walk with one stack
 use mathlib.Core.Bool.{Bool, true, false, not}
 use mathlib.Core.List.{List, [], _∷_}
-use mathlib.Core.Option.{none, some}
 use mathlib.Core.Path.{_≡_, refl, sym, ap, _∙_}
-use Prim.Native.Nat.{ℕ, zero, suc, _+_, _-_, _≤_, _<_}
+use Prim.Native.Nat.{ℕ, suc, _+_, _-_, _≤_, _<_}
 use native.Mathlib.Omega.{arith}
 use lib.Dec.{eqb, lit≤}
 use lib.ListN.{length, getD, drop, set, length-drop}
-use borrow.Author.Tests.{lt-ltb, le-ltb, ne-eqb, eqb-true}
+use borrow.Author.Tests.{ne-eqb, eqb-true}
 use Rattle.bits.specs.Sum.{sum, total}
 use Rattle.rules.specs.Calls.{read}
 use Rattle.rules.specs.Limits.{ruleFlags, recordLimit, fewOperands, manyRecords, badEnd}
-use Rattle.rules.specs.Machine.{push, finish, operands, run, made}
+use Rattle.rules.specs.Machine.{finish, run, made}
 use Rattle.rules.specs.Outcome.{Outcome, gives, refuses, refuse, _then_}
-use Rattle.rules.specs.Record.{Kind, Found, recordAt}
+use Rattle.rules.specs.Record.{Kind, Found}
 use Rattle.rules.specs.Tree.{Tree, size}
+use Rattle.rules.proofs.Run.{run-end, run-full, run-bad, run-few, run-read}
 use Rattle.expr.specs.Answers.{arityOf, ended}
 use Rattle.expr.proofs.Reader.{Read, read-refused}
-use Rattle.expr.proofs.Stack.{node, operand, Image, push-enough, push-few, size-push, size-operand, image-empty, image-push}
+use Rattle.expr.proofs.Stack.{node, operand, Image, push-enough, push-few, size-push, image-empty, image-push}
 
 pub record Walk (n : ℕ) (s : List ℕ) (count place depth : ℕ) : Type 0 where
   pub stack : List Tree
@@ -38,31 +38,6 @@ pub record Walk (n : ℕ) (s : List ℕ) (count place depth : ℕ) : Type 0 wher
   pub deep : length stack ≡ depth
   pub high : depth ≤ count
   pub sizes : total size stack ≡ count
-
--- ---- the machine's turns
-
-module _ (n : ℕ) (s : List ℕ) (p : ℕ) (ts : List Tree) where
-  run-end : (k : ℕ) → length s ≤ p → run k n s p ts ≡ finish (length s) ts
-  unfolding run
-  run-end zero h = rw (le-ltb p (length s) h, run)
-  run-end (suc k) h = rw (le-ltb p (length s) h, run)
-
-  run-many : p < length s → run zero n s p ts ≡ refuses manyRecords p
-  unfolding run
-  run-many h = rw (lt-ltb p (length s) h, run)
-
-  module _ (k : ℕ) (h : p < length s) where
-    run-refused : (j q : ℕ) → recordAt n s p ≡ refuses j q → run (suc k) n s p ts ≡ refuses j q
-    unfolding run
-    run-refused j q e = rw (lt-ltb p (length s) h, run, e)
-
-    run-few : (r : Found) → recordAt n s p ≡ gives r → push (r .kind) ts ≡ none → run (suc k) n s p ts ≡ refuses fewOperands p
-    unfolding run operands
-    run-few r e f = rw (lt-ltb p (length s) h, run, e, f)
-
-    run-push : (r : Found) (us : List Tree) → recordAt n s p ≡ gives r → push (r .kind) ts ≡ some us → run (suc k) n s p ts ≡ run k n s (r .next) us
-    unfolding run operands
-    run-push r us e f = rw (lt-ltb p (length s) h, run, e, f)
 
 finish-ended : (len : ℕ) (ts : List Tree) → finish len ts ≡ ended (length ts) len (gives (operand ts 0))
 unfolding finish operand
@@ -85,9 +60,6 @@ module _ {n : ℕ} {s : List ℕ} {count place depth : ℕ} (w : Walk n s count 
   abbrev pub grown : Kind → ℕ → Tree
   grown k base = node k (tree base) (tree (base + 1))
 
-  pub walk-tree : (i : ℕ) → i < depth → size (tree i) ≤ count
-  walk-tree i h = omega (arith, size-operand (w .stack) i (omega arith))
-
   -- the machine's next turn, where a record may still begin
   turn : count < recordLimit → made n s ≡ run (suc (recordLimit - (count + 1))) n s place (w .stack)
   turn l =
@@ -97,23 +69,23 @@ module _ {n : ℕ} {s : List ℕ} {count place depth : ℕ} (w : Walk n s count 
   pub walk-refused : {k q : ℕ} → n ≤ ruleFlags → count < recordLimit → read n s place ≡ refuses k q → made n s ≡ refuses k q
   walk-refused {k} {q} h l e =
       let f = read-refused n s place k q h e in
-      turn l ∙ run-refused n s place (w .stack) (recordLimit - (count + 1)) (f .0) k q (f .1)
+      turn l ∙ run-bad n s place (w .stack) (f .0) (recordLimit - (count + 1)) k q (f .1)
 
   pub walk-many : recordLimit ≤ count → place < length s → made n s ≡ refuses manyRecords place
   walk-many l h =
       let e : recordLimit - count ≡ 0 = omega arith in
-      w .runs ∙ ap (λ (k : ℕ). run k n s place (w .stack)) e ∙ run-many n s place (w .stack) h
+      w .runs ∙ ap (λ (k : ℕ). run k n s place (w .stack)) e ∙ run-full n s place (w .stack) h
 
   pub walk-end : length s ≤ place → made n s ≡ ended depth (length s) (gives (tree 0))
   walk-end h =
-      w .runs ∙ run-end n s place (w .stack) (recordLimit - count) h ∙ finish-ended (length s) (w .stack)
+      w .runs ∙ run-end (recordLimit - count) n s place (w .stack) h ∙ finish-ended (length s) (w .stack)
       ∙ ap (λ (k : ℕ). ended k (length s) (gives (tree 0))) (w .deep)
 
   module _ {r : Found} (f : Read n s place r) (l : count < recordLimit) where
     pub walk-few : depth < arityOf (r .kind) → made n s ≡ refuses fewOperands place
     walk-few h =
         turn l
-        ∙ run-few n s place (w .stack) (recordLimit - (count + 1)) (omega arith) r (f .stands) (push-few (r .kind) (w .stack) (omega arith))
+        ∙ run-few n s place (w .stack) (omega arith) (recordLimit - (count + 1)) r (f .stands) (push-few (r .kind) (w .stack) (omega arith))
 
     module _ (base : ℕ) (h : base + arityOf (r .kind) ≡ depth) where
       pub walk-step : Walk n s (count + 1) (r .next) (base + 1)
@@ -121,7 +93,7 @@ module _ {n : ℕ} {s : List ℕ} {count place depth : ℕ} (w : Walk n s count 
           let q : base + arityOf (r .kind) ≡ length (w .stack) = omega arith in
           record {
             stack = grown (r .kind) base ∷ drop (arityOf (r .kind)) (w .stack);
-            runs = turn l ∙ run-push n s place (w .stack) (recordLimit - (count + 1)) (omega arith) r _ (f .stands) (push-enough (r .kind) (w .stack) base q);
+            runs = turn l ∙ run-read n s place (w .stack) (omega arith) (recordLimit - (count + 1)) r _ (f .stands) (push-enough (r .kind) (w .stack) base q);
             deep = omega (arith, length-drop (arityOf (r .kind)) (w .stack));
             high = omega arith;
             sizes = size-push (r .kind) (w .stack) base q ∙ ap (λ (k : ℕ). k + 1) (w .sizes);

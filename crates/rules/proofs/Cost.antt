@@ -2,13 +2,13 @@
 -- so most laws are stated once for any such count. It rests on the induction over parts (Parts), on the monomial order (Ordered) and on the laws of
 -- totals (bits, Sum and Total). Assumes nothing.
 --   Counts f                                       == f counts leaves, AN and XO by 1; cost-counts and size-counts say that both do
---   cost-size, cost-pos, size-pos                  == 0 < cost t ≤ size t
+--   cost-size, cost-pos                            == 0 < cost t ≤ size t
 --   termCost-suc, termCost-pos                     == the cost of a monomial
 --   count-chain                                    == a chain by an operation that counts 1
 --   weight m, bulk l                               == a mask's cost with 1 for joining it, and that of all masks of l
 --   rawCost-bulk, rawCost-ordered                  == raw cost by weights; the order of the masks does not matter
 --   count-cube, count-folded, count-rawForm        == of products, balanced folds and raw forms, for any count
---   cost-cube, cost-folded, cost-rawForm, size-…   == the same of each count
+--   cost-cube, size-cube, cost-rawForm, size-rawForm == the same of each count
 --   size-orChain, cost-orChain, cost-orChain-few   == of OR chains
 --   rawCost-pos, bulk-literals, raw-literals       == raw cost is above 0, and is counted by literals and the constant
 use mathlib.Core.Bool.{Bool, true, false}
@@ -75,9 +75,6 @@ cost-pos (AN x y) = omega arith
 cost-pos (OR x y) = omega (arith, cost-pos x, discount-le x)
 cost-pos (XO x y) = omega arith
 cost-pos (NO x) = omega arith
-
-pub size-pos : (t : Tree) → 0 < size t
-size-pos t = omega (arith, cost-pos t, cost-size t)
 
 -- ---- what each part counts
 
@@ -164,12 +161,6 @@ cost-cube = count-cube cost cost-counts
 
 pub size-cube : (m : ℕ) → size (cube m) ≡ termCost m
 size-cube = count-cube size size-counts
-
-pub cost-folded : (t : Tree) (ts : List Tree) → cost (folded (t ∷ ts)) ≡ total cost (t ∷ ts) + length ts
-cost-folded = count-folded cost cost-counts
-
-pub size-folded : (t : Tree) (ts : List Tree) → size (folded (t ∷ ts)) ≡ total size (t ∷ ts) + length ts
-size-folded = count-folded size size-counts
 
 pub cost-rawForm : (l : List ℕ) → cost (rawForm l) ≡ rawCost l
 cost-rawForm = count-rawForm cost cost-counts

@@ -4,12 +4,11 @@
 --   size-compiled, cost-compiled         == the size and the cost are at most the raw cost
 --   flags-compiled                       == only the table's flags are mentioned
 --   raw-compiled, records-compiled       == up to six flags, the raw cost and the number of records are at most 385
---   length-compiled, bytes-compiled      == there are at most 963 bytes, and each is below 256
+--   length-compiled                      == there are at most 963 bytes
 use mathlib.Core.Bool.{Bool}
 use mathlib.Core.List.{List}
 use Prim.Native.Nat.{ℕ, _^_, _≤_}
 use native.Mathlib.Nat.{le-trans}
-use native.Mathlib.Omega.{arith}
 use lib.ListN.{length}
 use Rattle.bits.specs.Range.{upto, Ascending, Below}
 use Rattle.bits.proofs.Ascending.{below-keep, below-upto}
@@ -20,9 +19,8 @@ use Rattle.rules.specs.Limits.{ruleFlags, recordLimit, byteLimit}
 use Rattle.rules.specs.Monomial.{form}
 use Rattle.rules.specs.Table.{entry}
 use Rattle.rules.specs.Tree.{cost, size, write, FlagsBelow}
-use Rattle.rules.proofs.Bytes.{byte-limit, bytes-small}
+use Rattle.rules.proofs.Bytes.{byte-limit}
 use Rattle.rules.proofs.Compiled.{ascending-form}
-use Rattle.rules.proofs.FlagsBelow.{flags-more}
 use Rattle.rules.proofs.Mentions.{flags-cleanup}
 use Rattle.rules.proofs.Size.{size-cleanup, cost-cleanup, rawCost-limit}
 
@@ -60,6 +58,3 @@ module _ (n : ℕ) (table : List ℕ) where
 
     pub length-compiled : length (write (compiled n table)) ≤ byteLimit
     length-compiled = byte-limit (compiled n table) records-compiled
-
-    pub bytes-compiled : Below 256 (write (compiled n table))
-    bytes-compiled = bytes-small (compiled n table) (flags-more n 256 (omega arith) (compiled n table) flags-compiled)

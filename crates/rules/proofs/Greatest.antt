@@ -1,7 +1,7 @@
 -- The element of a list at which a function is greatest, the first of the equal ones, or 0 where the function is 0 at all of them.
 -- It rests on the definitions of specs/Cleanup and the laws of ascending lists (bits). Assumes nothing.
 --   greatest-max                     == nowhere in the list is the function greater
---   greatest-mem, greatest-pos       == where it is not 0, it is a member, and the function is above 0 there
+--   greatest-mem                     == where it is not 0, it is a member
 --   greatest-found                   == it is a member where the function is above 0 at some member
 --   greatest-first                   == in an ascending list the function is less at every member before it
 --   greatest-unique, greatest-ext    == these settle it; functions that agree at the members have the same
@@ -101,10 +101,6 @@ module _ (f : ℕ → ℕ) where
     pub greatest-mem : 0 < greatest f l → mem (greatest f l) l ≡ true
     unfolding greatest
     greatest-mem p = elim (best .who) [ inl e ↦ absurd (omega arith) | inr w ↦ w .here ]
-
-    pub greatest-pos : 0 < greatest f l → 0 < f (greatest f l)
-    unfolding greatest
-    greatest-pos p = elim (best .who) [ inl e ↦ absurd (omega arith) | inr w ↦ omega (arith, w .worth, w .more) ]
 
     pub greatest-found : (x : ℕ) → mem x l ≡ true → 0 < f x → mem (greatest f l) l ≡ true
     unfolding greatest

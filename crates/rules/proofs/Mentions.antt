@@ -5,7 +5,7 @@
 --   Flags Q l                                  == every flag of every mask of l passes Q
 --   closed-cube, closed-orChain, closed-folded == then P holds of chains of such flags, and of balanced folds of such trees
 --   closed-rawForm, closed-turn, closed-cleanup == of the raw form, of one turn and of the cleaned form
---   flags-cube, flags-orChain, flags-folded, flags-cleanup == the same of "every flag is below n" and of masks below 2^n
+--   flags-cleanup                              == the same of "every flag is below n" and of masks below 2^n
 use mathlib.Core.Bool.{Bool, true, false, not}
 use mathlib.Core.List.{List, [], _∷_, map}
 use mathlib.Core.Path.{_≡_, sym, ap, subst, _∙_}
@@ -165,15 +165,5 @@ flags-closed n = record {
   negation = λ x h. h;
 }
 
-module _ (n : ℕ) where
-  pub flags-cube : (m : ℕ) → m < 2 ^ n → FlagsBelow n (cube m)
-  flags-cube m h = closed-cube _ (FlagsBelow n) (flags-closed n) m (λ i. bit-lt n m i h)
-
-  pub flags-orChain : (m : ℕ) → m < 2 ^ n → FlagsBelow n (orChain m)
-  flags-orChain m h = closed-orChain _ (FlagsBelow n) (flags-closed n) m (λ i. bit-lt n m i h)
-
-  pub flags-folded : (ts : List Tree) → Every (FlagsBelow n) ts → FlagsBelow n (folded ts)
-  flags-folded = closed-folded _ (FlagsBelow n) (flags-closed n)
-
-  pub flags-cleanup : (l : List ℕ) → Below (2 ^ n) l → FlagsBelow n (cleanup l)
-  flags-cleanup l b = closed-cleanup _ (FlagsBelow n) (flags-closed n) l (λ m e i. bit-lt n m i (below-mem (2 ^ n) l m b e))
+pub flags-cleanup : (n : ℕ) (l : List ℕ) → Below (2 ^ n) l → FlagsBelow n (cleanup l)
+flags-cleanup n l b = closed-cleanup _ (FlagsBelow n) (flags-closed n) l (λ m e i. bit-lt n m i (below-mem (2 ^ n) l m b e))

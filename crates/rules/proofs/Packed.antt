@@ -1,29 +1,29 @@
 -- Coefficient words: how many there are, which bit of which word a coefficient is, and that words with the right bits are the words.
 -- It rests on the laws of words and of ranges (bits, Word and Range). Assumes nothing.
 --   wordCount-small, wordCount-large, wordCount-room, wordCount-pos == the number of words
---   bit-wordOf, wordOf-lt, packed-at                    == one word's bits, and the coefficients that one word holds
+--   bit-wordOf, packed-at                               == one word's bits, and the coefficients that one word holds
 --   length-words, getD-words                            == the list of words, entry by entry
 --   packed-words, packed-words-above, packed-words-room == the coefficients that the words hold: f below 2^n, none above
 --   stray-words, not-stray                              == written words have no stray bit; what it means to have none
 --   words-ext, words-of, words-packed                   == equal functions have equal words; words by their bits; words of what clean words hold
 use mathlib.Core.Bool.{Bool, true, false, _&&_, false≢true}
-use mathlib.Core.List.{List, [], _∷_, map}
+use mathlib.Core.List.{List, map}
 use mathlib.Core.Path.{_≡_, refl, sym, ap, ap₂, fun-ext, _∙_}
 use mathlib.Mathlib.Data.Bool.Basic.{eq-false-of-not-eq-true}
-use Prim.Native.Nat.{ℕ, zero, suc, _+_, _-_, _*_, _/_, _%_, _^_, _≤_, _<_}
+use Prim.Native.Nat.{ℕ, _+_, _-_, _*_, _/_, _%_, _^_, _≤_, _<_}
 use native.Mathlib.Omega.{arith}
 use lib.Dec.{ltb, leb}
-use lib.ListN.{length, getD, take, length-map, List·getD-eq-default}
+use lib.ListN.{length, getD, take, List·getD-eq-default}
 use lib.Pow.{pow-pos, pow-mono, pow-add}
-use lib.Seq.{ext-getD, length-take-le, getD-take}
+use lib.Seq.{length-take-le, getD-take}
 use borrow.Author.Tests.{ltb-true, ltb-false, leb-true, lt-ltb, le-ltb, le-leb}
 use Rattle.bits.specs.Bit.{bit}
 use Rattle.bits.specs.Range.{from, upto}
 use Rattle.bits.proofs.Truth.{and-intro, and-true-l}
-use Rattle.bits.proofs.Range.{length-from, getD-upto, mem-from, any-mem, mem-any}
+use Rattle.bits.proofs.Range.{mem-from, any-mem, mem-any}
 use Rattle.bits.proofs.Bit.{bit-zero}
 use Rattle.bits.proofs.Tabulated.{length-map-upto, getD-map-upto, map-upto-of}
-use Rattle.bits.proofs.Word.{bit-word-keep, word-keep-lt, word-ext}
+use Rattle.bits.proofs.Word.{bit-word-keep, word-ext}
 use Rattle.rules.specs.Coefficient.{wordCount, packed, stray, wordOf, words}
 
 -- ---- how many
@@ -49,10 +49,6 @@ wordCount-pos n = let p = pow-pos n in omega arith
 pub bit-wordOf : (f : ℕ → Bool) (i j : ℕ) → j < 64 → bit (wordOf f i) j ≡ f (64 * i + j)
 unfolding wordOf
 bit-wordOf f i j h = bit-word-keep 64 (λ k. f (64 * i + k)) j h
-
-pub wordOf-lt : (f : ℕ → Bool) (i : ℕ) → wordOf f i < 2 ^ 64
-unfolding wordOf
-wordOf-lt f i = word-keep-lt 64 (λ k. f (64 * i + k))
 
 pub packed-at : (ws : List ℕ) (i j : ℕ) → j < 64 → packed ws (64 * i + j) ≡ bit (getD ws i 0) j
 unfolding packed

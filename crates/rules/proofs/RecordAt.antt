@@ -2,18 +2,17 @@
 -- byte below 256, since a mark is two letters as one number; a slice of bytes always meets it. Beyond that it assumes nothing.
 --   bytesOf k, bytesOf-long     == the bytes of a record, two at least
 --   FlagBelow n k               == a flag's index is below n
---   record-at, record-seam      == a whole record is read: where the rest begins with it, and between other bytes
+--   record-at                   == a whole record is read where the rest begins with it
 --   Read, record-read           == what is read stood there, if the byte behind the first is below 256
---   read-slice                  == the bytes up to the next place are that record's
 use mathlib.Core.Bool.{Bool, true, false}
-use mathlib.Core.List.{List, [], _∷_, _++_, append-assoc}
+use mathlib.Core.List.{List, [], _∷_, _++_}
 use mathlib.Core.Path.{_≡_, refl, sym, ap, ap₂, _∙_, subst}
-use Prim.Native.Nat.{ℕ, zero, suc, _+_, _-_, _*_, _≤_, _<_}
+use Prim.Native.Nat.{ℕ, zero, suc, _+_, _*_, _≤_, _<_}
 use native.Mathlib.Nat.{add-suc}
 use native.Mathlib.Omega.{arith}
 use lib.Dec.{ltb, leb, eqb, lit<}
-use lib.ListN.{length, getD, take, drop, length-drop}
-use lib.Seq.{getD-drop, drop-cons, drop-drop, drop-append-seam, take-at}
+use lib.ListN.{length, getD, drop, length-drop}
+use lib.Seq.{getD-drop, drop-cons, drop-drop}
 use borrow.Author.Tests.{ltb-true, ltb-false, leb-true, eqb-true, le-ltb, lt-ltb}
 use Rattle.bits.specs.Bit.{digit}
 use Rattle.rules.specs.Ascii.{ascii}
@@ -83,10 +82,6 @@ module _ (n : ℕ) (s : List ℕ) (p : ℕ) where
   record-at Or b e f = at-mark 79 82 b e
   record-at Xor b e f = at-mark 88 79 b e
   record-at Not b e f = at-mark 78 79 b e
-
-pub record-seam : (n : ℕ) (a : List ℕ) (k : Kind) (b : List ℕ) → FlagBelow n k
-    → recordAt n (a ++ bytesOf k ++ b) (length a) ≡ gives (record { kind = k; next = length a + length (bytesOf k) })
-record-seam n a k b f = record-at n (a ++ bytesOf k ++ b) (length a) k b (rw append-assoc (drop-append-seam a (bytesOf k ++ b))) f
 
 pub record Read (n : ℕ) (s : List ℕ) (p : ℕ) (r : Found) : Type 0 where
   pub bytes : drop p s ≡ bytesOf (r .kind) ++ drop (r .next) s
@@ -158,6 +153,3 @@ module _ (n : ℕ) (s : List ℕ) (p : ℕ) (r : Found) where
       (λ _. pick-gives (marked s p "XO") _ _ r (λ t. read-of Xor tt long (mark-bytes small long 88 79 (lit< tt) t))
       (λ _. pick-gives (marked s p "NO") _ _ r (λ t. read-of Not tt long (mark-bytes small long 78 79 (lit< tt) t))
       (λ _ g. let z : _≡_ {A = ℕ} 0 1 = cc in absurd (omega arith))))))) (q .1)
-
-  pub read-slice : Read n s p r → take (r .next - p) (drop p s) ≡ bytesOf (r .kind)
-  read-slice d = rw (d .bytes) (take-at (bytesOf (r .kind)) _ (r .next - p) (omega arith))

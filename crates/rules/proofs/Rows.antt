@@ -3,13 +3,12 @@
 use mathlib.Core.Path.{_≡_, refl}
 use mathlib.Core.Bool.{Bool, true, false, not, _&&_}
 use mathlib.Core.List.{List, [], _∷_, _++_, map}
-use Prim.Native.Nat.{ℕ, zero, suc, _+_, _-_, _^_}
+use Prim.Native.Nat.{ℕ, zero, suc, _-_}
 use Prim.Native.String.{String}
-use lib.Bits.{bitwise, digits, bitAnd, bitOr}
 use lib.Count.{ones, onesIn}
 use borrow.Author.Tests.{le-ltb, leb-true}
 use lib.Dec.{T, leb, eqb}
-use lib.ListN.{length, replicate}
+use lib.ListN.{length}
 use Rattle.bits.specs.Bit.{bit, within}
 use Rattle.bits.specs.Fixed.{below, turns, fixed}
 use Rattle.bits.specs.Range.{from, keep, all, any, same}
@@ -26,7 +25,7 @@ use Rattle.rules.specs.Outcome.{Outcome, gives, refuses}
 use Rattle.rules.specs.Record.{mark, marked, plain, loaded, recordAt}
 use Rattle.rules.specs.Table.{entry, complete}
 use Rattle.rules.specs.Text.{records}
-use Rattle.rules.specs.Tree.{Tree, cost, size, value, write}
+use Rattle.rules.specs.Tree.{cost, size, value, write}
 
 -- the entries that a line of digits stands for
 entriesOf : String → List ℕ

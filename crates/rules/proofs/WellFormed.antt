@@ -3,7 +3,7 @@
 --   Ran, run-is                == a run that gives t: the stack's bytes and those left are t's
 --   Written, made-is, is-made  == `made` gives t exactly where t writes the bytes, has at most 385 records, and its flags are below n
 --   well-formed                == bytes are well formed exactly where there is such a tree
---   write-same, written-same   == that tree is the only one
+--   write-same                 == that tree is the only one
 use mathlib.Core.List.{List, [], _∷_, _++_, append-assoc, append-nil}
 use mathlib.Core.Logic.{_↔_}
 use mathlib.Core.Path.{_≡_, sym, ap, _∙_, subst}
@@ -91,6 +91,3 @@ write-same t u e =
     let k : ℕ = size t + size u in
     gives-same
     (sym (run-whole (b .0) t (b .1 .0) k (omega arith)) ∙ ap (λ (s : List ℕ). run k (b .0) s 0 []) e ∙ run-whole (b .0) u (b .1 .1) k (omega arith))
-
-pub written-same : (n : ℕ) (s : List ℕ) (t u : Tree) → Written n s t → Written n s u → t ≡ u
-written-same n s t u v w = write-same t u (sym (v .bytes) ∙ w .bytes)

@@ -1,6 +1,6 @@
 -- Text as the bytes of its ASCII letters.
 use mathlib.Core.List.{List, [] as []ᴸ, _∷_ as _∷ᴸ_}
-use Prim.Native.Char.{Char, code}
+use Prim.Native.Char.{code}
 use Prim.Native.Nat.{ℕ}
 use Prim.Native.String.{String, [], _∷_}
 

@@ -6,7 +6,7 @@ use Prim.Native.Nat.{ℕ, _^_}
 use lib.Dec.{ltb, leb, eqb}
 use lib.ListN.{length}
 use Rattle.bits.specs.Bit.{_⊕_, digit}
-use Rattle.bits.specs.Range.{keep, upto}
+use Rattle.bits.specs.Range.{keep}
 use Rattle.rules.specs.Cleanup.{cleanup}
 use Rattle.rules.specs.Coefficient.{coefficient, wordCount, packed, stray, words}
 use Rattle.rules.specs.Form.{rawCost}

@@ -2,7 +2,7 @@
 --   entries b        == the 64-bit entries of a table of bytes
 --   number o         == 0 for a result, else the refusal's number
 --   result o         == the result, else the refusal's place
-use mathlib.Core.List.{List, [], _∷_, map}
+use mathlib.Core.List.{List, map}
 use Prim.Native.Nat.{ℕ, _+_, _*_, _/_, _^_}
 use lib.ListN.{length, getD}
 use Rattle.bits.specs.Range.{upto}

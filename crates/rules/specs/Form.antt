@@ -6,7 +6,7 @@
 --   rawForm l        == the raw form of the form l
 --   rawCost l        == its cost, counted from the masks alone
 --   literals l       == the total number of flags in the masks of l
-use mathlib.Core.Bool.{Bool, true, false}
+use mathlib.Core.Bool.{true, false}
 use mathlib.Core.List.{List, [], _∷_, map, foldl}
 use Prim.Native.Nat.{ℕ, zero, suc, _+_, _-_, _*_, _/_}
 use lib.Count.{ones}

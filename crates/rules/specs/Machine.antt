@@ -3,7 +3,7 @@
 --   push k ts        == the stack after a record of kind k, or none where an operand is lacking
 --   made n s         == the tree of the bytes s with n flags, or the refusal by rows 9, 6, 7, 8 record by record and then 10
 --   WellFormed n s   == s is an expression of n flags
-use mathlib.Core.Bool.{Bool, true, false}
+use mathlib.Core.Bool.{true, false}
 use mathlib.Core.List.{List, [], _∷_}
 use mathlib.Core.Option.{Option, none, some}
 use mathlib.Core.Path.{_≡_}
@@ -12,7 +12,7 @@ use lib.Dec.{ltb}
 use lib.ListN.{length}
 use Rattle.rules.specs.Limits.{recordLimit, fewOperands, manyRecords, badEnd}
 use Rattle.rules.specs.Outcome.{Outcome, gives, refuses, _then_}
-use Rattle.rules.specs.Record.{Kind, Constant, Flag, And, Or, Xor, Not, Found, recordAt}
+use Rattle.rules.specs.Record.{Kind, Constant, Flag, And, Or, Xor, Not, recordAt}
 use Rattle.rules.specs.Tree.{Tree, CO, VA, AN, OR, XO, NO}
 
 -- "two operands, first operand first": the second is on top

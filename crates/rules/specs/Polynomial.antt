@@ -4,7 +4,6 @@
 --   polynomial n c x     == the polynomial with coefficients c at the flags' values x
 use mathlib.Core.Bool.{Bool}
 use Prim.Native.Nat.{ℕ, _^_}
-use Rattle.bits.specs.Bit.{bit}
 use Rattle.bits.specs.Range.{upto, keep, all}
 use Rattle.bits.specs.Sum.{parity}
 use Rattle.bits.specs.Word.{places}

@@ -3,7 +3,6 @@
 --   recordAt n s p   == the record that begins at byte p of s with n flags: its kind and the next place, or the refusal of its mark or payload
 use mathlib.Core.Bool.{Bool, true, false}
 use mathlib.Core.List.{List}
-use mathlib.Core.Option.{Option, none, some}
 use Prim.Native.Nat.{ℕ, _+_, _*_}
 use Prim.Native.String.{String}
 use lib.Dec.{ltb, leb, eqb}

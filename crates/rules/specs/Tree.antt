@@ -6,7 +6,7 @@
 --   write t         == the postfix bytes
 --   FlagsBelow n t  == every flag that the tree names is below n
 --   mentioned t     == the mask of the flags that the tree names
-use mathlib.Core.Bool.{Bool, true, false, not, _&&_, _||_}
+use mathlib.Core.Bool.{Bool, not, _&&_, _||_}
 use mathlib.Core.List.{List, [], _∷_, _++_}
 use Prim.Native.Nat.{ℕ, _+_, _-_, _^_, _<_, max}
 use lib.Bits.{bitOr}

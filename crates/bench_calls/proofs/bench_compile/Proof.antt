@@ -1,6 +1,5 @@
 -- `bench_calls::bench_compile` meets its contract: each arm names the answer, and the compiler's promise says what it means. Assumes nothing.
 use mathlib.Core.Path.{ap, sym, _∙_}
-use Prim.Native.Nat.{ℕ}
 use lib.ListN.{getD}
 use Rattle.bits.proofs.Tabulated.{length-map-upto}
 use Rattle.compiler.specs.Answer.{compilationOf}

@@ -1,6 +1,5 @@
 -- `console::table_word` meets its contract. The loop's invariant: the word has the bits of the settings below this one. The measure is the number of
 -- settings left. Assumes nothing.
-use mathlib.Core.Bool.{Bool}
 use mathlib.Core.Path.{_≡_, sym, ap, ap₂, _∙_}
 use Prim.Native.Nat.{ℕ, _-_, _*_, _/_, _%_, _^_, _≤_, _<_}
 use native.Mathlib.Omega.{arith}
