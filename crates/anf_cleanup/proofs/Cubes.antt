@@ -24,11 +24,10 @@ use Rattle.bits.specs.Word.{places}
 use Rattle.bits.proofs.Lowest.{clear-lt, trailing-lt}
 use Rattle.bits.proofs.Mask.{within-le}
 use Rattle.bits.proofs.Range.{from-add, keep-append, keep-keep, keep-ext, keep-none, mem-all, mem-from, mem-keep}
-use Rattle.bits.proofs.Truth.{and-true-l, and-true-r}
+use Rattle.bits.proofs.Truth.{and-true-l, and-true-r, and-implied}
 use Rattle.bits.proofs.Word.{places-lowest}
 use Rattle.rules.specs.Cleanup.{cleanup, covered, isCube, cubeSaving, better, greatest, bestCube}
 use Rattle.rules.specs.Cleanup as paper
-use Rattle.rules.proofs.Family.{and-implied}
 use Rattle.rules.proofs.Recursion.{cubes}
 use Rattle.anf_cleanup.specs.Plan.{bestOf, tried, InnerKept, Tried, Chosen}
 use Rattle.anf_cleanup.specs.declared.Best.{Best}

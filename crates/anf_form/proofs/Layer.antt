@@ -19,9 +19,8 @@ use Rattle.bits.specs.Sum.{sum}
 use Rattle.bits.specs.Word.{places, word}
 use Rattle.bits.proofs.Truth.{bool-ext}
 use Rattle.bits.proofs.Range.{keep-ext, keep-none, mem-all, all-mem, mem-upto}
-use Rattle.bits.proofs.Ascending.{below-mem}
 use Rattle.bits.proofs.Places.{places-and}
-use Rattle.bits.proofs.Word.{below-places, bit-word-keep}
+use Rattle.bits.proofs.Word.{places-lt, bit-word-keep}
 use Rattle.anf_form.specs.Degree.{layer}
 
 -- ---- the constants
@@ -63,21 +62,18 @@ bit-layer d m h = bit-word-keep 64 (λ j. eqb (ones j) d) m h
 
 module _ (d i w : ℕ) where
   -- the masks of word i
-  inside : (j : ℕ) → mem j (places 64 w) ≡ true → j < 64
-  inside j m = below-mem 64 (places 64 w) j (below-places 64 w) m
-
   ones-block : (j : ℕ) → j < 64 → ones (64 * i + j) ≡ ones i + ones j
   ones-block j h = ap (λ (n : ℕ). ones (n + j)) (omega arith) ∙ ones-cat 6 i j h
 
   pub degree-none : d < ones i → keep (λ j. eqb (ones (64 * i + j)) d) (places 64 w) ≡ []
   degree-none h =
       keep-none (λ j. eqb (ones (64 * i + j)) d) (places 64 w)
-      (mem-all _ (places 64 w) (λ j m. ap not (ne-eqb (ones (64 * i + j)) d (λ e. omega (arith, ones-block j (inside j m))))))
+      (mem-all _ (places 64 w) (λ j m. ap not (ne-eqb (ones (64 * i + j)) d (λ e. omega (arith, ones-block j (places-lt 64 w j m))))))
 
   pub degree-layer : ones i ≤ d → places 64 (bitAnd w (layer (d - ones i))) ≡ keep (λ j. eqb (ones (64 * i + j)) d) (places 64 w)
   degree-layer h =
       places-and 64 w (layer (d - ones i))
-      ∙ keep-ext (bit (layer (d - ones i))) (λ j. eqb (ones (64 * i + j)) d) (places 64 w) (λ j m. bit-layer (d - ones i) j (inside j m) ∙ shifted j (inside j m))
+      ∙ keep-ext (bit (layer (d - ones i))) (λ j. eqb (ones (64 * i + j)) d) (places 64 w) (λ j m. bit-layer (d - ones i) j (places-lt 64 w j m) ∙ shifted j (places-lt 64 w j m))
     where
       shifted : (j : ℕ) → j < 64 → eqb (ones j) (d - ones i) ≡ eqb (ones (64 * i + j)) d
       shifted j l =

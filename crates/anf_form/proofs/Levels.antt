@@ -3,10 +3,9 @@
 --   levels-none, levels-suc    == no degree, and one degree more
 --   levels-fit                == the terms of one degree more are no more than all
 --   levels-all                == seven degrees are all
-use mathlib.Core.Bool.{true}
 use mathlib.Core.List.{List, [], _++_, map, map-id}
 use mathlib.Core.Path.{_≡_, refl, sym, ap, _∙_, fun-ext}
-use Prim.Native.Nat.{ℕ, _+_, _≤_, _<_}
+use Prim.Native.Nat.{ℕ, _+_, _≤_}
 use native.Mathlib.Nat.{zero-add}
 use native.Mathlib.Numerals.{add-one}
 use native.Mathlib.Omega.{arith}
@@ -15,12 +14,10 @@ use lib.Count.{ones, ones-le}
 use lib.Dec.{eqb}
 use lib.ListN.{length}
 use Rattle.bits.specs.Bit.{bit}
-use Rattle.bits.specs.Range.{mem}
 use Rattle.bits.specs.Word.{places}
-use Rattle.bits.proofs.Ascending.{below-mem}
 use Rattle.bits.proofs.Places.{places-and}
 use Rattle.bits.proofs.Range.{keep-ext}
-use Rattle.bits.proofs.Word.{ascending-places, below-places}
+use Rattle.bits.proofs.Word.{ascending-places, places-lt}
 use Rattle.rules.specs.Monomial.{ordered}
 use Rattle.rules.proofs.Degrees.{degrees, degrees-le, ordered-degrees}
 use Rattle.rules.proofs.Ordered.{length-ordered}
@@ -28,9 +25,6 @@ use Rattle.anf_form.specs.Degree.{ofDegree, layer}
 use Rattle.anf_form.proofs.Layer.{bit-layer}
 
 module _ (w : ℕ) where
-  inside : (m : ℕ) → mem m (places 64 w) ≡ true → m < 64
-  inside m h = below-mem 64 (places 64 w) m (below-places 64 w) h
-
   pub levels-none : degrees (places 64 w) 0 ≡ []
   unfolding degrees
   levels-none = refl
@@ -39,14 +33,14 @@ module _ (w : ℕ) where
   level : (d : ℕ) → map (λ j. 0 + j) (places 64 (bitAnd w (layer d))) ≡ ofDegree d (places 64 w)
   level d =
       ap (λ (f : ℕ → ℕ). map f (places 64 (bitAnd w (layer d)))) (fun-ext zero-add) ∙ map-id (places 64 (bitAnd w (layer d)))
-      ∙ places-and 64 w (layer d) ∙ keep-ext (bit (layer d)) (λ m. eqb (ones m) d) (places 64 w) (λ m h. bit-layer d m (inside m h))
+      ∙ places-and 64 w (layer d) ∙ keep-ext (bit (layer d)) (λ m. eqb (ones m) d) (places 64 w) (λ m h. bit-layer d m (places-lt 64 w m h))
 
   pub levels-suc : (d : ℕ) → degrees (places 64 w) (d + 1) ≡ degrees (places 64 w) d ++ map (λ j. 0 + j) (places 64 (bitAnd w (layer d)))
   unfolding degrees
   levels-suc d = ap (degrees (places 64 w)) (add-one d) ∙ ap (λ (l : List ℕ). degrees (places 64 w) d ++ l) (sym (level d))
 
   pub levels-all : degrees (places 64 w) 7 ≡ ordered (places 64 w)
-  levels-all = ordered-degrees (places 64 w) (ascending-places 64 w) 7 (λ m h. omega (arith, ones-le 6 m (inside m h)))
+  levels-all = ordered-degrees (places 64 w) (ascending-places 64 w) 7 (λ m h. omega (arith, ones-le 6 m (places-lt 64 w m h)))
 
   pub levels-fit : (d : ℕ) → d ≤ 7 → length (degrees (places 64 w) d) ≤ length (places 64 w)
   levels-fit d h = omega (arith, degrees-le (places 64 w) d 7 h, ap length levels-all, length-ordered (places 64 w))

@@ -4,13 +4,12 @@
 --   lowest-block               == at a mask cut above its k lowest flags
 --   lowest-zero, lowest-step   == no flag, and one flag more
 --   lowest-all                 == all flags
---   coefficient-lower          == the coefficients of fewer flags are among those of more
 --   holds-coefficient          == words that hold the XOR for n flags or more hold the coefficients of n flags
 use mathlib.Core.Bool.{Bool, true, false, _&&_}
 use mathlib.Core.List.{List}
 use mathlib.Core.Path.{_≡_, refl, sym, ap, ap₂, _∙_}
-use Prim.Native.Nat.{ℕ, zero, suc, _+_, _-_, _*_, _/_, _%_, _^_, _≤_, _<_}
-use native.Mathlib.Nat.{mod-lt, lt-of-lt-of-le, pow-succ', two-pow-succ, mul-assoc, zero-add, suc-add, sub-add-cancel}
+use Prim.Native.Nat.{ℕ, suc, _+_, _-_, _*_, _/_, _%_, _^_, _≤_, _<_}
+use native.Mathlib.Nat.{mod-lt, lt-of-lt-of-le, pow-succ', two-pow-succ, mul-assoc}
 use native.Mathlib.Omega.{arith}
 use lib.ListN.{length}
 use lib.Pow.{pow-pos, pow-mono, split, high, low}
@@ -18,7 +17,7 @@ use Rattle.bits.specs.Bit.{_⊕_, bit, digit}
 use Rattle.bits.proofs.Truth.{xor-false, xor-comm}
 use Rattle.bits.proofs.Bit.{mod-pow-suc}
 use Rattle.rules.specs.Coefficient.{coefficient, wordCount, packed}
-use Rattle.rules.proofs.Mobius.{coefficient-zero, coefficient-low, coefficient-high, coefficient-ext}
+use Rattle.rules.proofs.Mobius.{coefficient-zero, coefficient-low, coefficient-high, coefficient-lower, coefficient-ext}
 use Rattle.rules.proofs.Packed.{wordCount-room}
 use Rattle.anf_transform.specs.Flag.{along, lowest, Holds}
 
@@ -83,13 +82,6 @@ pub lowest-all : (n : ℕ) (f : ℕ → Bool) (m : ℕ) → m < 2 ^ n → lowest
 lowest-all n f m h =
     ap (lowest n f) (omega arith) ∙ lowest-block n f 0 m h
     ∙ coefficient-ext n (λ s. f (0 * 2 ^ n + s)) f m (λ s l. ap f (omega arith))
-
-pub coefficient-lower : (n k : ℕ) (f : ℕ → Bool) (m : ℕ) → n ≤ k → m < 2 ^ n → coefficient k f m ≡ coefficient n f m
-coefficient-lower n k f m l h = rw (← sub-add-cancel l) (go (k - n))
-  where
-    go : (j : ℕ) → coefficient (j + n) f m ≡ coefficient n f m
-    go zero = rw zero-add
-    go (suc j) = rw suc-add (coefficient-low (j + n) f m (lt-of-lt-of-le h (pow-mono (omega arith))) ∙ go j)
 
 pub holds-coefficient : (n k : ℕ) (f : ℕ → Bool) (ws : List ℕ) → n ≤ k → length ws ≡ wordCount n → Holds (lowest k f) ws
     → (m : ℕ) → m < 2 ^ n → packed ws m ≡ coefficient n f m

@@ -26,11 +26,11 @@ use Rattle.bits.proofs.Shift.{bit-shl-in, bit-shl-in-low}
 use Rattle.bits.proofs.Word.{word-ext, bit-word-keep}
 use Rattle.rules.specs.Coefficient.{coefficient, packed}
 use Rattle.rules.specs.Monomial.{form}
-use Rattle.rules.proofs.Mobius.{coefficient-ext}
+use Rattle.rules.proofs.Mobius.{coefficient-lower, coefficient-ext}
 use Rattle.rules.proofs.Packed.{packed-at}
 use Rattle.anf_transform.specs.Change.{Changed}
 use Rattle.anf_transform.specs.Flag.{along, lowest, inWord, Holds}
-use Rattle.anf_transform.proofs.Flag.{along-ext, lowest-zero, lowest-step, lowest-all, coefficient-lower}
+use Rattle.anf_transform.proofs.Flag.{along-ext, lowest-zero, lowest-step, lowest-all}
 
 abbrev pub lacking : ℕ → ℕ
 lacking k = (2 ^ 64 - 1) / (2 ^ (2 ^ k) + 1)

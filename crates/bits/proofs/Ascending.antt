@@ -1,20 +1,22 @@
--- Laws of ascending lists: a list of numbers that ascends is settled by its members. They rest on the laws of membership of proofs/Range. Assumes nothing.
+-- Laws of ascending lists: a list of numbers that ascends is settled by its members. They rest on the laws of membership (Range) and of
+-- rising lists (Rising). Assumes nothing.
 --   ascending-from, below-upto                     == ranges ascend and are bounded
 --   ascending-tail, ascending-keep, below-keep     == so do tails and choices of what does
 --   after-mem, below-mem, mem-below                == the bounds, at members
 --   ascending-ext                                  == ascending lists with the same members are equal
 --   ascending-map                                  == a map that keeps the order of the members
 --   keep-upto-of                                   == an ascending list as a choice from a range
-use mathlib.Core.Bool.{Bool, true, _&&_, false≢true, true≢false}
+use mathlib.Core.Bool.{Bool, true, _&&_, false≢true}
 use mathlib.Core.List.{List, [], _∷_, map}
 use mathlib.Core.Logic.{inl, inr}
-use mathlib.Core.Path.{_≡_, refl, sym, ap, ap₂, _∙_, subst}
+use mathlib.Core.Path.{_≡_, sym, ap, _∙_, subst}
 use Prim.Native.Nat.{ℕ, zero, suc, _<_}
 use native.Mathlib.Omega.{arith}
 use lib.Dec.{ltb}
 use borrow.Author.Tests.{ltb-true, lt-ltb}
 use Rattle.bits.specs.Range.{from, upto, keep, any, mem, After, Ascending, Below}
 use Rattle.bits.proofs.Truth.{and-intro, and-true-l, and-true-r, decide, bool-ext}
+use Rattle.bits.proofs.Rising.{rising-ext}
 use Rattle.bits.proofs.Range.{keep-true, keep-false, mem-head, mem-tail, mem-cons, mem-keep, mem-upto}
 
 after-from : (a k : ℕ) → After a (from (suc a) k)
@@ -75,29 +77,8 @@ module _ (p : ℕ → Bool) where
     | inr e ↦ subst Ascending (sym (keep-false p x l e)) (after-ascending x (keep p l) (after-keep x l s))
   ]
 
--- the members of two ascending lists that begin alike, behind the first
-behind : (x y : ℕ) (l k : List ℕ) → x ≡ y → After x l → ((z : ℕ) → mem z (x ∷ l) ≡ mem z (y ∷ k)) → (z : ℕ) → mem z l ≡ true → mem z k ≡ true
-behind x y l k q s h z m =
-    elim (mem-cons y k z (sym (h z) ∙ mem-tail x l z m)) [ inl e ↦ let g = after-mem x l z s m in absurd (omega arith) | inr r ↦ r ]
-
 pub ascending-ext : (l k : List ℕ) → Ascending l → Ascending k → ((x : ℕ) → mem x l ≡ mem x k) → l ≡ k
-unfolding any
-ascending-ext [] [] s t h = refl
-ascending-ext [] (y ∷ k) s t h = absurd (false≢true (h y ∙ mem-head y k))
-ascending-ext (x ∷ l) [] s t h = absurd (true≢false (sym (mem-head x l) ∙ h x))
-ascending-ext (x ∷ l) (y ∷ k) s t h =
-    ap₂ {C = List ℕ} _∷_ first
-    (ascending-ext l k (ascending-tail x l s) (ascending-tail y k t)
-    (λ z. bool-ext _ _ (behind x y l k first s h z) (behind y x k l (sym first) t (λ w. sym (h w)) z)))
-  where
-    first : x ≡ y
-    first = elim (mem-cons y k x (sym (h x) ∙ mem-head x l)) [
-      | inl e ↦ e
-      | inr m ↦ elim (mem-cons x l y (h y ∙ mem-head y k)) [
-        | inl e ↦ sym e
-        | inr n ↦ let g = after-mem x l y s n in let w = after-mem y k x t m in omega arith
-      ]
-    ]
+ascending-ext = rising-ext (record { irrefl = λ a h. omega arith; trans = λ a b c h g. omega arith; tail = ascending-tail; ahead = after-mem })
 
 module _ (f : ℕ → ℕ) where
   after-map : (a : ℕ) (l : List ℕ) → ((x y : ℕ) → mem x (a ∷ l) ≡ true → mem y (a ∷ l) ≡ true → x < y → f x < f y) → After a l → After (f a) (map f l)

@@ -1,5 +1,6 @@
 -- Laws of a number's bits: what the operations on numbers do to each bit, and numbers that agree bit by bit.
 -- It rests on lib.Bits and lib.Pow, the library's laws of digits and powers of two. Assumes nothing.
+--   digit-le, digit-eqb                      == a digit is 1 at most; a number below 2 is its own digit
 --   digit-bit, bit-first, bit-suc            == a bit by division: w / 2 ^ i % 2, the lowest bit, and the bits of the half
 --   bit-and, bit-or, bit-xor, bit-not        == the operations work on each bit apart
 --   bit-shr, bit-shl, bit-shl-low            == shifts
@@ -21,7 +22,11 @@ use lib.Pow.{pow-pos, pow-mono, pow-lt, shr-shr, shl-shr, high, low, mod-pow-add
 use borrow.Author.Tests.{eqb-true, eqb-false, ltb-true, ltb-false}
 use Rattle.bits.specs.Bit.{bit, digit, _⊕_}
 
-digit-eqb : (d : ℕ) → d < 2 → digit (eqb d 1) ≡ d
+pub digit-le : (b : Bool) → digit b ≤ 1
+digit-le true = omega arith
+digit-le false = omega arith
+
+pub digit-eqb : (d : ℕ) → d < 2 → digit (eqb d 1) ≡ d
 digit-eqb zero h = refl
 digit-eqb (suc zero) h = refl
 digit-eqb (suc (suc d)) h = absurd (omega arith)

@@ -3,6 +3,7 @@ pub mod Bit
 pub mod Shift
 pub mod Mask
 pub mod Range
+pub mod Rising
 pub mod Ascending
 pub mod Sum
 pub mod Fixed
@@ -12,7 +13,6 @@ pub mod Total
 pub mod Below
 pub mod Every
 pub mod First
-pub mod Invariant
 pub mod Places
 pub mod Digits
 pub mod Stores

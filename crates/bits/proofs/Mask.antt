@@ -9,7 +9,7 @@
 --   within-or, within-and                                == a union within, and within an intersection
 --   sub-xor, bit-sub, sub-disjoint                       == what a part leaves of the whole
 --   bit-add, within-add, within-split                    == sets with no common member add
---   ones-add, ones-sub                                   == sizes add
+--   ones-add, ones-sub, ones-or                          == sizes add, and a union has no more members than its parts together
 --   ones-zero, ones-pos, ones-pow, one-is-pow            == sizes 0 and 1
 use mathlib.Core.Path.{_≡_, refl, sym, ap, ap₂, _∙_}
 use mathlib.Core.Bool.{Bool, true, false, not, _&&_, _||_, false≢true}
@@ -20,7 +20,7 @@ use native.Mathlib.Nat.{le-antisymm, lt-of-le-of-lt, eq-zero-or-pos, zero-add, a
 use native.Mathlib.Omega.{arith}
 use lib.Dec.{eqb}
 use lib.Arith.{bin-ind}
-use lib.Bits.{bitAnd, bitOr, bitXor, and-self, and-comm, and-le-l, and-le-r, and-step, and-block, or-disjoint, xor-add-and}
+use lib.Bits.{bitAnd, bitOr, bitXor, and-self, and-comm, and-le-l, and-le-r, and-step, and-block, or-disjoint, or-add-and, xor-add-and}
 use lib.Count.{ones, ones-step, ones-cat}
 use lib.Pow.{pow-pos, high, low}
 use borrow.Author.Tests.{eqb-true, eq-eqb}
@@ -210,6 +210,11 @@ ones-sub c m h =
     let l = within-le c m h in
     let e : m ≡ c + (m - c) = omega arith in
     omega (arith, ones-add c (m - c) (sub-disjoint c m h), ap ones e)
+
+pub ones-or : (a b : ℕ) → ones (bitOr a b) ≤ ones a + ones b
+ones-or a b =
+    let e : bitOr a b - a ≡ b - bitAnd a b = omega (arith, or-add-and a b, and-le-r a b) in
+    omega (arith, ap ones e, ones-sub a (bitOr a b) (within-or-l a b), ones-sub (bitAnd a b) b (within-and-r a b))
 
 pub ones-zero : (m : ℕ) → ones m ≡ 0 → m ≡ 0
 ones-zero = bin-ind (λ (m : ℕ). ones m ≡ 0 → m ≡ 0) (λ e. refl) (λ m ih e. let s = ones-step m in let h = ih (omega arith) in omega arith)

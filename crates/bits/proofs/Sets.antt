@@ -25,9 +25,9 @@ use Rattle.bits.proofs.Truth.{and-intro, and-true-l, and-true-r, bool-e
 use Rattle.bits.proofs.Bit.{bit-and, bit-not, bit-first, bit-suc, bit-shr, bit-lt, bit-zero, nonzero-bit}
 use Rattle.bits.proofs.Mask.{bits-within, within-bit, ones-zero}
 use Rattle.bits.proofs.Range.{keep-keep, keep-ext, all-mem, mem-all, any-mem, mem-any, any-map, same-true, same-refl}
-use Rattle.bits.proofs.Ascending.{below-mem, ascending-map, ascending-ext}
+use Rattle.bits.proofs.Ascending.{ascending-map, ascending-ext}
 use Rattle.bits.proofs.Places.{places-and}
-use Rattle.bits.proofs.Word.{ascending-places, below-places, mem-places, word-places, places-word, ones-places, places-lowest}
+use Rattle.bits.proofs.Word.{ascending-places, places-lt, mem-places, word-places, places-word, ones-places, places-lowest}
 
 pub mem-bit : (k w i : ℕ) → w < 2 ^ k → mem i (places k w) ≡ bit w i
 mem-bit k w i h =
@@ -41,7 +41,7 @@ unfolding places
 places-and-not k w v h =
     places-and k w ((2 ^ k - 1) - v)
     ∙ keep-ext (bit ((2 ^ k - 1) - v)) (λ i. not (bit v i)) (places k w)
-    (λ i m. bit-not k v i h (below-mem k (places k w) i (below-places k w) m))
+    (λ i m. bit-not k v i h (places-lt k w i m))
 
 bit-even : (w i : ℕ) → bit (w / 2 * 2) i ≡ (bit w i && ltb 0 i)
 bit-even w zero =

@@ -2,10 +2,11 @@
 --   xor-assoc, xor-comm, xor-false, xor-self            == ⊕ regroups, commutes, has the unit false, and each value undoes itself
 --   xor-cancel, xor-same                                == a ⊕ (a ⊕ b) is b; a ⊕ b is false only of equals
 --   and-intro, and-true-l, and-true-r, or-split         == a conjunction is true where both sides are, a disjunction where one is
+--   and-implied                                         == a conjunct that the other implies
 --   decide, bool-ext                                    == a value is true or false; two values true together are equal
-use mathlib.Core.Bool.{Bool, true, false, _&&_, _||_}
+use mathlib.Core.Bool.{Bool, true, false, _&&_, _||_, and-false}
 use mathlib.Core.Logic.{_⊎_, inl, inr}
-use mathlib.Core.Path.{_≡_, refl, sym}
+use mathlib.Core.Path.{_≡_, refl, sym, ap}
 use Rattle.bits.specs.Bit.{_⊕_}
 
 pub xor-assoc : (a b c : Bool) → (a ⊕ b) ⊕ c ≡ a ⊕ (b ⊕ c)
@@ -49,6 +50,10 @@ pub and-true-r : (a b : Bool) → (a && b) ≡ true → b ≡ true
 and-true-r true b e = e
 and-true-r false true e = refl
 and-true-r false false e = e
+
+pub and-implied : (a b : Bool) → (b ≡ true → a ≡ true) → (a && b) ≡ b
+and-implied a true h = ap (λ (c : Bool). c && true) (h refl)
+and-implied a false h = and-false a
 
 pub or-split : (a b : Bool) → (a || b) ≡ true → (a ≡ true) ⊎ (b ≡ true)
 or-split true b e = inl refl

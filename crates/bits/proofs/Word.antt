@@ -1,7 +1,7 @@
 -- A number as the set of its places: the places of a number's ones and the number of an ascending list of places undo each other.
 -- It rests on the laws of bits, masks and lowest bits (Bit, Mask, Lowest) and of ascending lists (Range, Ascending). Assumes nothing.
 --   bit-word, word-lt, ones-word               == the number that has its ones at the places of a list
---   ascending-places, below-places, mem-places == the list of a number's places
+--   ascending-places, below-places, mem-places, places-lt == the list of a number's places, and each is below the bound
 --   word-places, places-word, ones-places      == there and back, and the size
 --   bit-word-keep, word-keep-lt, word-ext      == the number whose bits below k a test gives
 --   places-lowest                              == the places, lowest first
@@ -83,6 +83,9 @@ module _ (k w : ℕ) where
   pub below-places : Below k (places k w)
   unfolding places
   below-places = below-chosen k (bit w)
+
+  pub places-lt : (i : ℕ) → mem i (places k w) ≡ true → i < k
+  places-lt i m = below-mem k (places k w) i below-places m
 
   pub mem-places : (i : ℕ) → mem i (places k w) ≡ (ltb i k && bit w i)
   unfolding places

@@ -20,6 +20,7 @@ use borrow.Author.Tests.{eqb-true, eqb-false}
 use Rattle.bits.specs.Bit.{bit, digit}
 use Rattle.bits.specs.Range.{upto}
 use Rattle.bits.specs.Word.{places}
+use Rattle.bits.proofs.Bit.{digit-le}
 use Rattle.bits.proofs.Range.{length-from, length-keep}
 use Rattle.rules.specs.Cleanup.{cleanup, atop, singles, absorption}
 use Rattle.rules.specs.Form.{cube, orChain}
@@ -29,7 +30,7 @@ use Rattle.anf_cleanup.specs.Plan.{built, Allowed, rank, Right, Parts, Planned}
 use Rattle.anf_cleanup.specs.declared.Choice.{Choice}
 use Rattle.anf_cleanup.specs.declared.Choice.the-variants.{Constant, Family, Raw, Partial, Cube, Absorption, Open}
 use Rattle.anf_cleanup.specs.declared.Plan.{Plan}
-use Rattle.anf_cleanup.proofs.Bounds.{digit-le, pair-bounds}
+use Rattle.anf_cleanup.proofs.Bounds.{pair-bounds}
 use Rattle.anf_cleanup.proofs.Plans.{planned-right, right-open}
 use Rattle.anf_cleanup.proofs.Rules.{absorption-none, absorption-apart, absorption-tree}
 use Rattle.postfix.specs.Written.{Room, Writes}

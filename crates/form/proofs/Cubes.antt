@@ -21,7 +21,7 @@ use Rattle.bits.specs.Bit.{bit, within}
 use Rattle.bits.specs.Range.{keep, any, mem}
 use Rattle.bits.specs.Sum.{union}
 use Rattle.bits.specs.Word.{places}
-use Rattle.bits.proofs.Truth.{and-intro, and-true-l}
+use Rattle.bits.proofs.Truth.{and-intro, and-true-l, and-implied}
 use Rattle.bits.proofs.Mask.{within-trans, within-and-l, within-and-r, ones-pos}
 use Rattle.bits.proofs.Range.{mem-head, mem-tail, mem-keep, any-keep, any-ext, any-map, any-mem}
 use Rattle.bits.proofs.Ascending.{below-mem}
@@ -33,7 +33,7 @@ use Rattle.bits.proofs.Word.{below-places, ones-places, places-lowest}
 use Rattle.rules.specs.Cleanup.{meets, covered, stripped, isCube}
 use Rattle.rules.specs.Monomial.{monomials}
 use Rattle.rules.proofs.Covered.{mem-covered, covered-within}
-use Rattle.rules.proofs.Family.{and-implied, mem-family}
+use Rattle.rules.proofs.Family.{mem-family}
 use Rattle.form.specs.Masks.{familyWords}
 use Rattle.form.proofs.Entries.{getD-families, bit-family}
 

@@ -20,7 +20,7 @@ use borrow.Author.Tests.{ltb-true, lt-ltb, le-ltb, leb-true, le-leb, lt-leb, eq-
 use Rattle.bits.specs.Bit.{bit, within}
 use Rattle.bits.specs.Range.{keep, all, mem}
 use Rattle.bits.specs.Word.{places, word}
-use Rattle.bits.proofs.Truth.{and-intro, and-true-l, and-true-r}
+use Rattle.bits.proofs.Truth.{and-intro, and-true-l, and-true-r, and-implied}
 use Rattle.bits.proofs.Mask.{bits-within, within-le, within-pow, ones-sub, ones-pos}
 use Rattle.bits.proofs.Range.{keep-keep, keep-ext, mem-keep, all-mem, all-ext}
 use Rattle.bits.proofs.Ascending.{ascending-keep, below-mem}
@@ -30,7 +30,7 @@ use Rattle.bits.proofs.Sets.{mem-bit, places-even, all-bit}
 use Rattle.bits.proofs.Union.{bit-union-singles}
 use Rattle.rules.specs.Cleanup.{family, singles, isPartial, bestFamily, greatest}
 use Rattle.rules.specs.Monomial.{monomials}
-use Rattle.rules.proofs.Family.{and-implied, mem-family}
+use Rattle.rules.proofs.Family.{mem-family}
 use Rattle.form.specs.Chosen.{chosen}
 use Rattle.form.specs.Masks.{familyWords}
 use Rattle.form.proofs.Chosen.{greatest-chosen}

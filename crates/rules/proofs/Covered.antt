@@ -19,14 +19,14 @@ use borrow.Author.Tests.{lt-ltb}
 use Rattle.bits.specs.Bit.{_⊕_, within}
 use Rattle.bits.specs.Range.{keep, all, any, mem, After, Ascending}
 use Rattle.bits.specs.Sum.{sum, parity}
-use Rattle.bits.proofs.Truth.{and-true-r}
+use Rattle.bits.proofs.Truth.{and-true-r, and-implied}
 use Rattle.bits.proofs.Mask.{within-le, within-zero, within-split}
 use Rattle.bits.proofs.Range.{keep-all, keep-keep, keep-ext, mem-all, mem-keep, all-mem}
 use Rattle.bits.proofs.Ascending.{after-mem, ascending-keep, ascending-map, ascending-ext}
 use Rattle.bits.proofs.Sum.{xor-laws, sum-map, sum-ext-mem, sum-split, parity-and}
 use Rattle.rules.specs.Cleanup.{family, covered, stripped}
 use Rattle.rules.specs.Monomial.{constant, monomials}
-use Rattle.rules.proofs.Family.{and-implied, ascending-family, parity-family}
+use Rattle.rules.proofs.Family.{ascending-family, parity-family}
 
 -- ---- constant and monomials
 

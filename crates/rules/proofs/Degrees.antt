@@ -22,13 +22,12 @@ use lib.ListN.{length, length-append}
 use borrow.Author.Tests.{ltb-true, ltb-false, lt-ltb, le-ltb, eqb-true, eq-eqb, ne-eqb}
 use Rattle.bits.specs.Bit.{digit}
 use Rattle.bits.specs.Range.{keep, any, mem, After, Ascending, Below}
-use Rattle.bits.proofs.Truth.{and-true-l, and-true-r, and-intro, or-split, bool-ext}
+use Rattle.bits.proofs.Truth.{and-true-l, and-true-r, and-intro, or-split, bool-ext, and-implied}
 use Rattle.bits.proofs.Mask.{ones-pos}
 use Rattle.bits.proofs.Range.{keep-keep, keep-ext, keep-none, mem-all, mem-head, mem-tail, mem-append, mem-keep}
 use Rattle.bits.proofs.Ascending.{ascending-keep, below-keep, below-mem}
 use Rattle.rules.specs.Monomial.{constant, monomials, precedes, ordered}
 use Rattle.rules.proofs.Covered.{on, form-split}
-use Rattle.rules.proofs.Family.{and-implied}
 use Rattle.rules.proofs.Ordered.{precedes-less, precedes-equal, Follows, Sorted, ordered-unique}
 
 -- ---- sorted lists, joined

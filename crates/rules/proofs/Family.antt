@@ -1,6 +1,5 @@
 -- The nonempty subsets of a mask: which they are, and that those within a setting are odd in number exactly if the mask and the setting share a flag.
 -- It rests on the exclusive or over subsets (Mobius) and on the laws of masks and ascending lists (bits). Assumes nothing.
---   and-implied                      == a conjunct that the other implies
 --   mem-family, ascending-family     == the members of the family of u; they ascend
 --   coefficient-one, coefficient-any == the coefficients of the constant 1, and of "some flag is set"
 --   parity-family                    == the polynomial with the family of u for monomials is the OR of u's flags
@@ -17,7 +16,7 @@ use borrow.Author.Tests.{leb-true, lt-ltb, ne-eqb}
 use Rattle.bits.specs.Bit.{_⊕_, within}
 use Rattle.bits.specs.Range.{from, upto, keep, mem, Ascending}
 use Rattle.bits.specs.Sum.{sum, parity}
-use Rattle.bits.proofs.Truth.{and-true-l, and-true-r, xor-comm, xor-false}
+use Rattle.bits.proofs.Truth.{and-true-l, and-true-r, and-implied, xor-comm, xor-false}
 use Rattle.bits.proofs.Bit.{lt-pow}
 use Rattle.bits.proofs.Mask.{within-le, within-zero, within-and}
 use Rattle.bits.proofs.Range.{mem-keep, mem-from, mem-upto}
@@ -26,10 +25,6 @@ use Rattle.bits.proofs.Sum.{xor-laws, sum-ext, sum-ext-mem, sum-unit, parity-ke
 use Rattle.rules.specs.Cleanup.{family}
 use Rattle.rules.specs.Coefficient.{coefficient}
 use Rattle.rules.proofs.Mobius.{coefficient-parity, coefficient-ext, coefficient-twice, coefficient-xor}
-
-pub and-implied : (a b : Bool) → (b ≡ true → a ≡ true) → (a && b) ≡ b
-and-implied a true h = ap (λ (c : Bool). c && true) (h refl)
-and-implied a false h = and-false a
 
 less : (m u k : ℕ) → u < k → within m u ≡ true → ltb m k ≡ true
 less m u k h e = lt-ltb m k (lt-of-le-of-lt (within-le m u e) h)

@@ -2,19 +2,17 @@
 -- the cleaned form of a form in which k flags occur. It rests on the flags that a tree names (Mentioned), on the costs of OR chains (Cost) and on the
 -- sizes of masks (bits, Mask). Assumes nothing.
 --   floor k, floor-orChain           == the floor of k flags; it is the cost of their OR chain
---   ones-or                          == a union has no more flags than its parts together
 --   cost-floor                       == a tree costs at least the floor of the flags that it names
 --   floor-cleanup, chain-cleanup     == so does the cleaned form: it costs no less than the OR chain of the flags that occur
 use mathlib.Core.List.{List}
-use mathlib.Core.Path.{_≡_, refl, sym, ap, subst}
-use Prim.Native.Nat.{ℕ, zero, suc, _+_, _-_, _≤_}
+use mathlib.Core.Path.{_≡_, refl, sym, subst}
+use Prim.Native.Nat.{ℕ, zero, suc, _+_, _≤_}
 use native.Mathlib.Nat.{le-refl, le-trans}
 use native.Mathlib.Omega.{arith}
-use lib.Bits.{bitAnd, bitOr, or-add-and, and-le-r}
 use lib.Count.{ones}
 use Rattle.bits.specs.Range.{Ascending}
 use Rattle.bits.specs.Sum.{union}
-use Rattle.bits.proofs.Mask.{within-or-l, within-and-r, ones-sub, ones-pow}
+use Rattle.bits.proofs.Mask.{ones-or, ones-pow}
 use Rattle.rules.specs.Cleanup.{cleanup}
 use Rattle.rules.specs.Form.{orChain}
 use Rattle.rules.specs.Tree.{Tree, CO, VA, AN, OR, XO, NO, cost, discount, mentioned}
@@ -40,11 +38,6 @@ floor-orChain m = go (ones m) refl
     go zero e = sym (cost-orChain-few m (omega arith))
     go (suc zero) e = sym (cost-orChain-few m (omega arith))
     go (suc (suc k)) e = omega (arith, cost-orChain m (omega arith))
-
-pub ones-or : (a b : ℕ) → ones (bitOr a b) ≤ ones a + ones b
-ones-or a b =
-    let e : bitOr a b - a ≡ b - bitAnd a b = omega (arith, or-add-and a b, and-le-r a b) in
-    omega (arith, ap ones e, ones-sub a (bitOr a b) (within-or-l a b), ones-sub (bitAnd a b) b (within-and-r a b))
 
 -- one flag costs 1 and joining costs 1; an OR has room for the discount that it gives
 named : (t : Tree) → ones (mentioned t) + discount t ≤ cost t

@@ -1,7 +1,7 @@
 -- The element of a list at which a function is greatest, the first of the equal ones, or 0 where the function is 0 at all of them.
 -- It rests on the definitions of specs/Cleanup and the laws of ascending lists (bits). Assumes nothing.
 --   greatest-max                     == nowhere in the list is the function greater
---   greatest-mem                     == where it is not 0, it is a member
+--   greatest-mem, greatest-suc       == where it is not 0, it is a member
 --   greatest-found                   == it is a member where the function is above 0 at some member
 --   greatest-first                   == in an ascending list the function is less at every member before it
 --   greatest-unique, greatest-ext    == these settle it; functions that agree at the members have the same
@@ -9,7 +9,7 @@ use mathlib.Core.Bool.{Bool, true, false, false≢true}
 use mathlib.Core.List.{List, [], _∷_, foldl}
 use mathlib.Core.Logic.{_⊎_, inl, inr}
 use mathlib.Core.Path.{_≡_, refl, sym, ap, _∙_}
-use Prim.Native.Nat.{ℕ, _≤_, _<_}
+use Prim.Native.Nat.{ℕ, suc, _≤_, _<_}
 use native.Mathlib.Omega.{arith}
 use lib.Dec.{ltb}
 use borrow.Author.Tests.{ltb-true, ltb-false}
@@ -101,6 +101,9 @@ module _ (f : ℕ → ℕ) where
     pub greatest-mem : 0 < greatest f l → mem (greatest f l) l ≡ true
     unfolding greatest
     greatest-mem p = elim (best .who) [ inl e ↦ absurd (omega arith) | inr w ↦ w .here ]
+
+    pub greatest-suc : (m : ℕ) → greatest f l ≡ suc m → mem (suc m) l ≡ true
+    greatest-suc m e = ap (λ (x : ℕ). mem x l) (sym e) ∙ greatest-mem (omega arith)
 
     pub greatest-found : (x : ℕ) → mem x l ≡ true → 0 < f x → mem (greatest f l) l ≡ true
     unfolding greatest

@@ -18,7 +18,7 @@ use Rattle.bits.specs.Bit.{bit, within}
 use Rattle.bits.specs.Range.{keep, mem, Below}
 use Rattle.bits.proofs.Bit.{bit-lt}
 use Rattle.bits.proofs.Every.{Every, every-left, every-right, every-map, every-mem}
-use Rattle.bits.proofs.Invariant.{fixed-keeps}
+use Rattle.bits.proofs.Fixed.{fixed-keeps}
 use Rattle.bits.proofs.Mask.{within-bit, bit-sub}
 use Rattle.bits.proofs.Range.{mem-head, mem-tail, mem-keep, any-map, any-mem}
 use Rattle.bits.proofs.Ascending.{below-mem}

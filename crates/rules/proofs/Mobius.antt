@@ -2,16 +2,18 @@
 -- It rests on the laws of sums (bits, Sum) and of masks (bits, Mask). Assumes nothing.
 --   coefficient-parity                                  == a coefficient as a sum over all settings
 --   coefficient-zero, coefficient-low, coefficient-high == no flag; a mask without the highest flag; a mask with it
+--   coefficient-lower                                   == the coefficients of fewer flags are among those of more
 --   coefficient-ext, coefficient-xor                    == functions that agree; the exclusive or of two functions
 --   coefficient-twice                                   == the coefficients of the coefficients are the function
 use mathlib.Core.Bool.{Bool, true, false, _&&_}
 use mathlib.Core.List.{List, map}
 use mathlib.Core.Path.{_≡_, refl, sym, ap, ap₂, _∙_}
 use mathlib.Mathlib.Data.Bool.Basic.{eq-false-of-not-eq-true}
-use Prim.Native.Nat.{ℕ, zero, suc, _+_, _-_, _*_, _^_, _<_}
-use native.Mathlib.Nat.{two-pow-succ}
+use Prim.Native.Nat.{ℕ, zero, suc, _+_, _-_, _*_, _^_, _≤_, _<_}
+use native.Mathlib.Nat.{two-pow-succ, lt-of-lt-of-le, zero-add, suc-add, sub-add-cancel}
 use native.Mathlib.Omega.{arith}
 use lib.Dec.{ltb}
+use lib.Pow.{pow-mono}
 use borrow.Author.Tests.{ltb-true, ltb-false}
 use Rattle.bits.specs.Bit.{_⊕_, within}
 use Rattle.bits.specs.Range.{from, upto, keep}
@@ -61,6 +63,13 @@ coefficient-low n f m h =
   where
     out : (s : ℕ) → within (2 ^ n + s) m ≡ false
     out s = eq-false-of-not-eq-true (λ e. let l = within-le (2 ^ n + s) m e in omega arith)
+
+pub coefficient-lower : (n k : ℕ) (f : ℕ → Bool) (m : ℕ) → n ≤ k → m < 2 ^ n → coefficient k f m ≡ coefficient n f m
+coefficient-lower n k f m l h = rw (← sub-add-cancel l) (go (k - n))
+  where
+    go : (j : ℕ) → coefficient (j + n) f m ≡ coefficient n f m
+    go zero = rw zero-add
+    go (suc j) = rw suc-add (coefficient-low (j + n) f m (lt-of-lt-of-le h (pow-mono (omega arith))) ∙ go j)
 
 pub coefficient-high : (n : ℕ) (f : ℕ → Bool) (m : ℕ) → m < 2 ^ n
     → coefficient (suc n) f (2 ^ n + m) ≡ coefficient n f m ⊕ coefficient n (λ s. f (2 ^ n + s)) m

@@ -9,7 +9,7 @@
 use mathlib.Core.Bool.{Bool, true, false, _&&_, _||_, false≢true, true≢false}
 use mathlib.Core.List.{List, [], _∷_}
 use mathlib.Core.Logic.{_⊎_, inl, inr}
-use mathlib.Core.Path.{_≡_, refl, sym, ap, ap₂, _∙_}
+use mathlib.Core.Path.{_≡_, refl, sym, ap, _∙_}
 use mathlib.Mathlib.Data.Bool.Basic.{eq-false-of-not-eq-true}
 use Prim.Native.Nat.{ℕ, suc, _<_}
 use native.Mathlib.Nat.{eq-or-lt-of-le}
@@ -20,9 +20,10 @@ use lib.ListN.{length}
 use borrow.Author.Tests.{ltb-true, ltb-false, lt-ltb, eqb-true, eq-eqb}
 use Rattle.bits.specs.Range.{any, mem, Ascending}
 use Rattle.bits.specs.Sum.{sum}
-use Rattle.bits.proofs.Truth.{and-intro, and-true-l, and-true-r, or-split, decide, bool-ext}
+use Rattle.bits.proofs.Truth.{and-intro, and-true-l, and-true-r, or-split, decide}
 use Rattle.bits.proofs.Range.{mem-head, mem-tail, mem-cons}
 use Rattle.bits.proofs.Ascending.{ascending-tail, after-mem}
+use Rattle.bits.proofs.Rising.{rising-ext}
 use Rattle.bits.proofs.Sum.{Commutes}
 use Rattle.rules.specs.Monomial.{precedes, insert, ordered}
 
@@ -161,31 +162,8 @@ sorted-tail : (x : ℕ) (l : List ℕ) → Sorted (x ∷ l) → Sorted l
 sorted-tail x [] s = tt
 sorted-tail x (y ∷ l) s = s .1
 
--- the members of two sorted lists that begin alike, behind the first
-behind : (x y : ℕ) (l k : List ℕ) → x ≡ y → Follows x l → ((z : ℕ) → mem z (x ∷ l) ≡ mem z (y ∷ k)) → (z : ℕ) → mem z l ≡ true → mem z k ≡ true
-behind x y l k q s h z m = elim (mem-cons y k z (sym (h z) ∙ mem-tail x l z m)) [
-  | inl e ↦ absurd (precedes-irrefl x (ap (precedes x) (q ∙ sym e) ∙ follows-mem x l z s m))
-  | inr r ↦ r
-]
-
 pub sorted-ext : (l k : List ℕ) → Sorted l → Sorted k → ((x : ℕ) → mem x l ≡ mem x k) → l ≡ k
-unfolding any
-sorted-ext [] [] s t h = refl
-sorted-ext [] (y ∷ k) s t h = absurd (false≢true (h y ∙ mem-head y k))
-sorted-ext (x ∷ l) [] s t h = absurd (true≢false (sym (mem-head x l) ∙ h x))
-sorted-ext (x ∷ l) (y ∷ k) s t h =
-    ap₂ {C = List ℕ} _∷_ first
-    (sorted-ext l k (sorted-tail x l s) (sorted-tail y k t)
-    (λ z. bool-ext _ _ (behind x y l k first s h z) (behind y x k l (sym first) t (λ w. sym (h w)) z)))
-  where
-    first : x ≡ y
-    first = elim (mem-cons y k x (sym (h x) ∙ mem-head x l)) [
-      | inl e ↦ e
-      | inr m ↦ elim (mem-cons x l y (h y ∙ mem-head y k)) [
-        | inl e ↦ sym e
-        | inr n ↦ absurd (precedes-irrefl x (precedes-trans x y x (follows-mem x l y s n) (follows-mem y k x t m)))
-      ]
-    ]
+sorted-ext = rising-ext (record { irrefl = precedes-irrefl; trans = precedes-trans; tail = sorted-tail; ahead = follows-mem })
 
 pub ordered-unique : (l k : List ℕ) → Ascending l → Sorted k → ((x : ℕ) → mem x k ≡ mem x l) → k ≡ ordered l
 ordered-unique l k s t h = sorted-ext k (ordered l) t (ordered-sorted l s) (λ x. h x ∙ sym (mem-ordered x l))

@@ -7,7 +7,7 @@
 use mathlib.Core.Bool.{Bool, true, false}
 use mathlib.Core.List.{List, [], _∷_, _++_}
 use mathlib.Core.Path.{_≡_, refl, sym, ap, ap₂, _∙_, subst}
-use Prim.Native.Nat.{ℕ, zero, suc, _+_, _*_, _≤_, _<_}
+use Prim.Native.Nat.{ℕ, _+_, _*_, _≤_, _<_}
 use native.Mathlib.Nat.{add-suc}
 use native.Mathlib.Omega.{arith}
 use lib.Dec.{ltb, leb, eqb, lit<}
@@ -15,6 +15,7 @@ use lib.ListN.{length, getD, drop, length-drop}
 use lib.Seq.{getD-drop, drop-cons, drop-drop}
 use borrow.Author.Tests.{ltb-true, ltb-false, leb-true, eqb-true, le-ltb, lt-ltb}
 use Rattle.bits.specs.Bit.{digit}
+use Rattle.bits.proofs.Bit.{digit-eqb}
 use Rattle.rules.specs.Ascii.{ascii}
 use Rattle.rules.specs.Limits.{badMark, badPayload}
 use Rattle.rules.specs.Outcome.{Outcome, gives, refuses, refuse}
@@ -96,11 +97,6 @@ mark-two [] x y h a b e = absurd (omega arith)
 mark-two (u ∷ []) x y h a b e = absurd (omega arith)
 mark-two (u ∷ v ∷ l) x y h a b e = ap₂ {C = List ℕ} (λ c d. c ∷ d ∷ l) (omega arith) (omega arith)
 
-digit-of : (c : ℕ) → c ≤ 1 → digit (eqb c 1) ≡ c
-digit-of zero h = refl
-digit-of (suc zero) h = refl
-digit-of (suc (suc c)) h = absurd (omega arith)
-
 module _ (n : ℕ) (s : List ℕ) (p : ℕ) (r : Found) where
   read-of : (k : Kind) → FlagBelow n k → p + length (bytesOf k) ≤ length s → drop p s ≡ bytesOf k ++ drop (p + length (bytesOf k)) s
       → _≡_ {A = Outcome Found} (gives (record { kind = k; next = p + length (bytesOf k) })) (gives r) → Read n s p r
@@ -132,7 +128,8 @@ module _ (n : ℕ) (s : List ℕ) (p : ℕ) (r : Found) where
         let c : ℕ = getD s (p + 2) 0 in
         let l = loaded-gives (leb c 1) (Constant (eqb c 1)) g in
         let b = payload-bytes 67 79 (lit< tt) t (l .0) in
-        read-of (Constant (eqb c 1)) tt (l .0) (b ∙ ap {B = List ℕ} (λ d. 67 ∷ 79 ∷ d ∷ drop (p + 3) s) (sym (digit-of c (leb-true c 1 (l .1))))) (l .2)
+        let small = leb-true c 1 (l .1) in
+        read-of (Constant (eqb c 1)) tt (l .0) (b ∙ ap {B = List ℕ} (λ d. 67 ∷ 79 ∷ d ∷ drop (p + 3) s) (sym (digit-eqb c (omega arith)))) (l .2)
 
     flag-read : marked s p "VA" ≡ true → loaded s p (ltb (getD s (p + 2) 0) n) (Flag (getD s (p + 2) 0)) ≡ gives r → Read n s p r
     unfolding marked mark ascii bytesOf

@@ -21,11 +21,11 @@ use Rattle.bits.specs.Sum.{union}
 use Rattle.bits.proofs.Truth.{and-true-l, and-true-r}
 use Rattle.bits.proofs.Fixed.{below-less, fixed-step}
 use Rattle.bits.proofs.Range.{mem-keep, mem-from}
-use Rattle.rules.specs.Cleanup.{atop, greatest, singles, isFamily, isPartial, bestFamily, partialAt, partialOr, meets, covered, stripped, isCube, cubeSaving, bestCube, withRest, cubeAt, commonCube, absorption, cheaper, contest, turn, cleanup}
+use Rattle.rules.specs.Cleanup.{atop, singles, isFamily, isPartial, bestFamily, partialAt, partialOr, meets, covered, stripped, isCube, cubeSaving, bestCube, withRest, cubeAt, commonCube, absorption, cheaper, contest, turn, cleanup}
 use Rattle.rules.specs.Form.{cube, orChain, rawForm, rawCost, literals}
 use Rattle.rules.specs.Monomial.{constant, monomials}
 use Rattle.rules.specs.Tree.{Tree, CO, AN, XO, cost}
-use Rattle.rules.proofs.Greatest.{greatest-mem, greatest-ext}
+use Rattle.rules.proofs.Greatest.{greatest-suc, greatest-ext}
 use Rattle.rules.proofs.Literals.{literals-stripped, literals-uncovered, literals-without}
 
 abbrev pub families : List ℕ → List ℕ
@@ -49,15 +49,12 @@ cubes-mem l c e =
     let candidate = eqb (ones c) 1 && within c (union l) || leb 2 (ones c) && meets (monomials l) c in
     (leb-true 1 c (and-true-l (leb 1 c) (ltb c (1 + union l)) range), leb-true 2 (length (covered c l)) (and-true-r candidate _ test))
 
-chosen : (f : ℕ → ℕ) (l : List ℕ) (m : ℕ) → greatest f l ≡ suc m → mem (suc m) l ≡ true
-chosen f l m q = ap (λ (x : ℕ). mem x l) (sym q) ∙ greatest-mem f l (omega arith)
-
 module _ (g h : List ℕ → Tree) (l : List ℕ) (e : (x : List ℕ) → literals x < literals l → g x ≡ h x) where
   partialAt-ext : (m : ℕ) → bestFamily l ≡ m → partialAt g l m ≡ partialAt h l m
   unfolding partialAt bestFamily
   partialAt-ext zero q = refl
   partialAt-ext (suc m) q =
-      let u = families-mem l (suc m) (chosen _ (families l) m q) in
+      let u = families-mem l (suc m) (greatest-suc _ (families l) m q) in
       ap {B = List Tree} (λ t. XO (orChain (suc m)) t ∷ []) (e _ (literals-without (suc m) l (u .0) (u .1)))
 
   module _ (c : ℕ) (t : mem c (cubes l) ≡ true) where
@@ -84,7 +81,7 @@ module _ (g h : List ℕ → Tree) (l : List ℕ) (e : (x : List ℕ) → litera
   unfolding cubeAt bestCube
   cubeAt-ext zero q = refl
   cubeAt-ext (suc c) q =
-      let t = chosen (cubeSaving h l) (cubes l) c q in
+      let t = greatest-suc (cubeSaving h l) (cubes l) c q in
       let rest = keep (λ m. not (within (suc c) m)) l in
       ap {B = List Tree} (λ x. withRest g (AN (cube (suc c)) x) rest ∷ []) (stripped-ext (suc c) t)
       ∙ ap {B = List Tree} (λ x. x ∷ []) (withRest-ext (AN (cube (suc c)) (h (stripped (suc c) l))) rest (rest-ext (suc c) t))

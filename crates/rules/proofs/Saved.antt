@@ -6,9 +6,10 @@
 --   cost-saved      == cost t + saved t ≡ size t
 use mathlib.Core.Bool.{Bool, true, false}
 use mathlib.Core.Path.{_≡_, refl}
-use Prim.Native.Nat.{ℕ, _+_, _≤_}
+use Prim.Native.Nat.{ℕ, _+_}
 use native.Mathlib.Omega.{arith}
 use Rattle.bits.specs.Bit.{digit}
+use Rattle.bits.proofs.Bit.{digit-le}
 use Rattle.rules.specs.Tree.{Tree, CO, VA, AN, OR, XO, NO, cost, size, discount}
 
 abbrev pub isOr : Tree → Bool
@@ -34,10 +35,6 @@ discount-digit (AN x y) = refl
 discount-digit (OR x y) = refl
 discount-digit (XO x y) = refl
 discount-digit (NO x) = refl
-
-digit-le : (b : Bool) → digit b ≤ 1
-digit-le true = omega arith
-digit-le false = omega arith
 
 pub cost-saved : (t : Tree) → cost t + saved t ≡ size t
 unfolding cost size saved

@@ -20,11 +20,11 @@ use Rattle.bits.specs.Bit.{digit, within}
 use Rattle.bits.specs.Range.{from, upto, keep, mem, Ascending, Below}
 use Rattle.bits.specs.Sum.{sum}
 use Rattle.bits.proofs.Truth.{and-intro, and-true-r}
-use Rattle.bits.proofs.Bit.{lt-pow, nonzero-bit}
+use Rattle.bits.proofs.Bit.{lt-pow, nonzero-bit, digit-le}
 use Rattle.bits.proofs.Mask.{within-pow, ones-sub, ones-pos, ones-pow}
 use Rattle.bits.proofs.Range.{mem-keep, mem-head}
 use Rattle.bits.proofs.Ascending.{ascending-keep, below-mem, mem-below, keep-upto-of}
-use Rattle.bits.proofs.Invariant.{fixed-keeps}
+use Rattle.bits.proofs.Fixed.{fixed-keeps}
 use Rattle.bits.proofs.Sum.{plus-laws, sum-split, total-keep-le}
 use Rattle.bits.proofs.Total.{total-mem, total-two}
 use Rattle.rules.specs.Cleanup.{family, atop, singles, covered, stripped, withRest, turn, cleanup}
@@ -72,10 +72,6 @@ bulk-family m h p =
     omega (arith, termCost-pos (2 ^ i), total-two weight (family m) m (2 ^ i) (family-own m p) flag other)
 
 -- ---- rule by rule
-
-digit-le : (b : Bool) → digit b ≤ 1
-digit-le true = omega arith
-digit-le false = omega arith
 
 module _ (g : List ℕ → Tree) (h : (l : List ℕ) → Ascending l → size (g l) ≤ rawCost l) (l : List ℕ) (s : Ascending l) where
   size-atop : (t : Tree) → size t < bulk (monomials l) → size (atop (constant l) t) ≤ rawCost l

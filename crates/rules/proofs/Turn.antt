@@ -1,33 +1,32 @@
 -- What one turn of the cleanup can give: the raw form, or what one of its rules makes with any choice that the rule allows. So what holds of each of
--- these trees holds of the turn, whichever is cheapest. It rests on the definitions of specs/Cleanup and the laws of lists (bits, Range). Assumes nothing.
+-- these trees holds of the turn, whichever is cheapest. It rests on the masks that the rules choose among (Recursion) and the laws of lists (bits, Range). Assumes nothing.
 --   Partial l m          == the monomial m of l is one that rule 2 may choose
 --   Common l c           == the cube c is one that rule 3 may choose in l
 --   Turn g l P           == P holds of every tree that a turn at l may give, with g for "the cleaned form of"
 --   family-own           == a mask is in its own family
 --   turn-ind             == then it holds of the turn
-use mathlib.Core.Bool.{Bool, true, false, not, _&&_, _||_}
+use mathlib.Core.Bool.{Bool, true, false, not, _&&_}
 use mathlib.Core.List.{List, [], _∷_, _++_, foldl}
-use mathlib.Core.Path.{_≡_, refl, sym, ap, _∙_}
+use mathlib.Core.Path.{_≡_, refl, sym, _∙_}
 use Prim.Native.Nat.{ℕ, zero, suc, _-_, _≤_, _<_}
-use native.Mathlib.Nat.{zero-lt-suc}
 use native.Mathlib.Omega.{arith}
 use lib.Count.{ones}
-use lib.Dec.{ltb, leb, eqb}
+use lib.Dec.{ltb, leb}
 use lib.ListN.{length}
 use borrow.Author.Tests.{ltb-true, lt-ltb, leb-true, leb-false}
 use Rattle.bits.specs.Bit.{within}
-use Rattle.bits.specs.Range.{keep, all, mem, same, from}
-use Rattle.bits.specs.Sum.{union}
+use Rattle.bits.specs.Range.{keep, all, mem, same}
 use Rattle.bits.proofs.Every.{Every, every-append}
 use Rattle.bits.proofs.Mask.{within-refl}
 use Rattle.bits.proofs.Truth.{and-intro, and-true-l, and-true-r}
 use Rattle.bits.proofs.Range.{mem-keep, same-true}
-use Rattle.rules.specs.Cleanup.{family, atop, greatest, singles, isFamily, isPartial, bestFamily, partialAt, partialOr, meets, covered, stripped, isCube, cubeSaving, bestCube, withRest, cubeAt, commonCube, absorb, absorption, cheaper, contest, turn}
+use Rattle.rules.specs.Cleanup.{family, atop, singles, isFamily, isPartial, bestFamily, partialAt, partialOr, covered, stripped, cubeSaving, bestCube, withRest, cubeAt, commonCube, absorb, absorption, cheaper, contest, turn}
 use Rattle.rules.specs.Form.{cube, orChain, rawForm}
 use Rattle.rules.specs.Monomial.{constant, monomials}
 use Rattle.rules.specs.Tree.{Tree, CO, AN, XO, NO, cost}
 use Rattle.rules.proofs.Family.{mem-family}
-use Rattle.rules.proofs.Greatest.{greatest-mem}
+use Rattle.rules.proofs.Greatest.{greatest-suc}
+use Rattle.rules.proofs.Recursion.{families, cubes, families-mem, cubes-mem}
 
 pub record Partial (l : List ℕ) (m : ℕ) : Type 0 where
   pub nonzero : 0 < m
@@ -59,42 +58,33 @@ pick : {A : Type 0} (Q : A → Type 0) (b : Bool) (x y : A) → (b ≡ true → 
 pick Q true x y h k = h refl
 pick Q false x y h k = k refl
 
-chosen : (f : ℕ → ℕ) (p : ℕ → Bool) (l : List ℕ) (m : ℕ) → greatest f (keep p l) ≡ suc m → (mem (suc m) l && p (suc m)) ≡ true
-chosen f p l m e = sym (mem-keep p l (suc m)) ∙ ap (λ (x : ℕ). mem x (keep p l)) (sym e) ∙ greatest-mem f (keep p l) (omega arith)
-
 cheaper-ind : (P : Tree → Type 0) (ts : List Tree) (t : Tree) → P t → Every P ts → P (foldl cheaper t ts)
 unfolding cheaper
 cheaper-ind P [] t p h = p
 cheaper-ind P (u ∷ ts) t p h = cheaper-ind P ts (cheaper t u) (pick P (ltb (cost u) (cost t)) u t (λ e. h .0) (λ e. p)) (h .1)
 
-may-part : (l : List ℕ) (m : ℕ) → 0 < m → (mem m (monomials l) && isPartial l m) ≡ true → Partial l m
+may-part : (l : List ℕ) (m : ℕ) → mem m (families l) ≡ true → Partial l m
 unfolding isPartial
-may-part l m p both =
+may-part l m e =
+    let both = sym (mem-keep (isPartial l) (monomials l) m) ∙ e in
     let test = and-true-r (mem m (monomials l)) (isPartial l m) both in
     let several = leb 2 (ones m) in
     let subsets = all (λ s. mem s l) (family m) in
     let fewer = ltb (length (family m)) (length (monomials l)) in
     let front = and-true-l (several && subsets) fewer test in
     record {
-      nonzero = p;
+      nonzero = families-mem l m e .0;
       monomial = and-true-l (mem m (monomials l)) (isPartial l m) both;
       several = leb-true 2 (ones m) (and-true-l several subsets front);
       subsets = and-true-r several subsets front;
       fewer = ltb-true (length (family m)) (length (monomials l)) (and-true-r (several && subsets) fewer test);
     }
 
-may-common : (l : List ℕ) (c : ℕ) → 0 < c → (mem c (from 1 (union l)) && isCube l c) ≡ true → Common l c
-unfolding isCube
-may-common l c p both =
-    let test = and-true-r (mem c (from 1 (union l))) (isCube l c) both in
-    let candidate = eqb (ones c) 1 && within c (union l) || leb 2 (ones c) && meets (monomials l) c in
-    record { nonzero = p; many = leb-true 2 (length (covered c l)) (and-true-r candidate (leb 2 (length (covered c l))) test) }
-
 module _ (g : List ℕ → Tree) (l : List ℕ) (P : Tree → Type 0) (h : Turn g l P) where
   partial-at : (m : ℕ) → bestFamily l ≡ m → Every P (partialAt g l m)
   unfolding partialAt bestFamily
   partial-at zero e = tt
-  partial-at (suc m) e = (h .part (suc m) (may-part l (suc m) (zero-lt-suc m) (chosen _ (isPartial l) (monomials l) m e)), tt)
+  partial-at (suc m) e = (h .part (suc m) (may-part l (suc m) (greatest-suc _ (families l) m e)), tt)
 
   partial-every : Every P (partialOr g l)
   unfolding partialOr
@@ -103,7 +93,7 @@ module _ (g : List ℕ → Tree) (l : List ℕ) (P : Tree → Type 0) (h : Turn 
   cube-at : (c : ℕ) → bestCube g l ≡ c → Every P (cubeAt g l c)
   unfolding cubeAt bestCube
   cube-at zero e = tt
-  cube-at (suc c) e = (h .common (suc c) (may-common l (suc c) (zero-lt-suc c) (chosen (cubeSaving g l) (isCube l) (from 1 (union l)) c e)), tt)
+  cube-at (suc c) e = let u = cubes-mem l (suc c) (greatest-suc (cubeSaving g l) (cubes l) c e) in (h .common (suc c) (record { nonzero = u .0; many = u .1 }), tt)
 
   common-every : Every P (commonCube g l)
   unfolding commonCube

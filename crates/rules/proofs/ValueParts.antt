@@ -1,5 +1,5 @@
 -- The values of the parts that the cleanup puts together: products, OR chains, balanced folds, raw forms, and a constant on top.
--- It rests on the laws of masks and of sums (bits), on the induction over parts (Parts), on the polynomial's products (Zhegalkin) and on the monomial
+-- It rests on the laws of places and of sums (bits, Sets and Sum), on the induction over parts (Parts), on the polynomial's products (Zhegalkin) and on the monomial
 -- order (Ordered). Assumes nothing.
 --   value-cube, value-orChain   == a product is 1 where the setting has all flags of the mask, an OR chain where it has one of them
 --   value-folded, value-rawForm == a balanced fold is the parity of its terms, a raw form that of the masks within the setting
@@ -7,21 +7,17 @@
 use mathlib.Core.Bool.{Bool, true, false, _&&_, _||_, and-true, or-false}
 use mathlib.Core.List.{List, [], _∷_, _++_, map}
 use mathlib.Core.Path.{_≡_, refl, sym, ap, ap₂, _∙_}
-use Prim.Native.Nat.{ℕ, _^_, _<_}
-use native.Mathlib.Omega.{arith}
+use Prim.Native.Nat.{ℕ}
 use lib.Bits.{bitAnd}
 use lib.Dec.{ltb}
-use lib.Pow.{pow-pos}
-use borrow.Author.Tests.{ltb-true, lt-ltb}
-use Rattle.bits.specs.Bit.{_⊕_, bit, within}
+use Rattle.bits.specs.Bit.{_⊕_, within}
 use Rattle.bits.specs.Range.{all, any}
 use Rattle.bits.specs.Sum.{sum, parity}
-use Rattle.bits.proofs.Truth.{and-intro, and-true-l, and-true-r, bool-ext, xor-false}
-use Rattle.bits.proofs.Bit.{bit-and, bit-lt, lt-pow, nonzero-bit}
-use Rattle.bits.proofs.Mask.{within-le, within-pow}
-use Rattle.bits.proofs.Range.{all-map, any-map, all-append, any-append, any-mem, mem-any}
+use Rattle.bits.proofs.Truth.{xor-false}
+use Rattle.bits.proofs.Bit.{lt-pow}
+use Rattle.bits.proofs.Range.{all-map, any-map, all-append, any-append}
+use Rattle.bits.proofs.Sets.{any-bit}
 use Rattle.bits.proofs.Sum.{xor-laws, sum-map, sum-ext, sum-append}
-use Rattle.bits.proofs.Word.{mem-places}
 use Rattle.rules.specs.Cleanup.{atop}
 use Rattle.rules.specs.Form.{flags, chain, cube, orChain, folded, rawForm}
 use Rattle.rules.specs.Monomial.{ordered}
@@ -54,35 +50,12 @@ value-cube m s =
     value-chain s AN _&&_ (all f) (λ x y. refl) (λ t. sym (and-true (f t))) (all-append f) (CO true) refl (map VA (flags m))
     ∙ all-map f VA (flags m) ∙ product-within m m s (lt-pow m)
 
-set-pos : (w i : ℕ) → bit w i ≡ true → 0 < w
-set-pos w i e = omega (arith, within-le (2 ^ i) w (within-pow i w ∙ e), pow-pos i)
-
-any-flag : (m s : ℕ) → any (bit s) (flags m) ≡ ltb 0 (bitAnd m s)
-any-flag m s = bool-ext _ _ apart together
-  where
-    apart : any (bit s) (flags m) ≡ true → ltb 0 (bitAnd m s) ≡ true
-    apart h =
-        let t = any-mem (bit s) (flags m) h in
-        let i = t .0 in
-        lt-ltb 0 (bitAnd m s) (set-pos (bitAnd m s) i
-        (bit-and m s i ∙ and-intro _ _ (and-true-r (ltb i m) (bit m i) (sym (mem-places m m i) ∙ t .1)) (t .2)))
-
-    together : ltb 0 (bitAnd m s) ≡ true → any (bit s) (flags m) ≡ true
-    together h =
-        let w = bitAnd m s in
-        let t = nonzero-bit w w (lt-pow w) (ltb-true 0 w h) in
-        let i = t .0 in
-        let both : (bit m i && bit s i) ≡ true = sym (bit-and m s i) ∙ t .2 in
-        let here = and-true-l (bit m i) (bit s i) both in
-        mem-any (bit s) (flags m) i (mem-places m m i ∙ and-intro _ _ (lt-ltb i m (bit-lt m m i (lt-pow m) here)) here)
-        (and-true-r (bit m i) (bit s i) both)
-
 pub value-orChain : (m s : ℕ) → value (orChain m) s ≡ ltb 0 (bitAnd m s)
 unfolding value any
 value-orChain m s =
     let f : Tree → Bool = λ t. value t s in
     value-chain s OR _||_ (any f) (λ x y. refl) (λ t. sym (or-false (f t))) (any-append f) (CO false) refl (map VA (flags m))
-    ∙ any-map f VA (flags m) ∙ any-flag m s
+    ∙ any-map f VA (flags m) ∙ any-bit m m s (lt-pow m)
 
 -- ---- the balanced fold and the raw form
 

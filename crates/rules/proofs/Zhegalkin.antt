@@ -1,5 +1,5 @@
 -- The Zhegalkin polynomial meets document 01: with the computed coefficients the polynomial is the table, and no other coefficients do that.
--- It rests on the exclusive or over subsets (Mobius) and on the laws of masks and of sums (bits, Mask and Sum). Assumes nothing.
+-- It rests on the exclusive or over subsets (Mobius) and on the laws of places and of sums (bits, Sets and Sum). Assumes nothing.
 --   product-within           == a product of flags is 1 where the setting has them all
 --   polynomial-coefficient   == the polynomial's value is the exclusive or over subsets, of its coefficients
 --   polynomial-table         == the polynomial with the computed coefficients is the table
@@ -7,28 +7,19 @@
 use mathlib.Core.Bool.{Bool, false, _&&_, and-comm}
 use mathlib.Core.Path.{_≡_, sym, ap, _∙_}
 use Prim.Native.Nat.{ℕ, _^_, _<_}
-use lib.Dec.{ltb}
-use borrow.Author.Tests.{ltb-true, lt-ltb}
+use borrow.Author.Tests.{ltb-true}
 use Rattle.bits.specs.Bit.{_⊕_, bit, within}
-use Rattle.bits.specs.Range.{upto, all}
-use Rattle.bits.specs.Word.{places}
-use Rattle.bits.proofs.Truth.{bool-ext, and-intro, and-true-r}
-use Rattle.bits.proofs.Range.{mem-upto, all-mem, mem-all}
-use Rattle.bits.proofs.Bit.{bit-lt}
-use Rattle.bits.proofs.Mask.{within-bit, bits-within}
+use Rattle.bits.specs.Range.{upto}
+use Rattle.bits.proofs.Range.{mem-upto}
+use Rattle.bits.proofs.Sets.{all-bit}
 use Rattle.bits.proofs.Sum.{sum-ext-mem, parity-keep}
-use Rattle.bits.proofs.Word.{mem-places}
 use Rattle.rules.specs.Coefficient.{coefficient}
 use Rattle.rules.specs.Polynomial.{product, polynomial}
 use Rattle.rules.proofs.Mobius.{coefficient-parity, coefficient-ext, coefficient-twice}
 
 pub product-within : (n m s : ℕ) → m < 2 ^ n → product n m (bit s) ≡ within m s
 unfolding product
-product-within n m s h =
-    bool-ext (all (bit s) (places n m)) (within m s)
-    (λ e. bits-within m s (λ i b. all-mem (bit s) (places n m) i e
-    (mem-places n m i ∙ and-intro (ltb i n) (bit m i) (lt-ltb i n (bit-lt n m i h b)) b)))
-    (λ e. mem-all (bit s) (places n m) (λ i b. within-bit m s i e (and-true-r (ltb i n) (bit m i) (sym (mem-places n m i) ∙ b))))
+product-within n m s h = all-bit n m s h
 
 pub polynomial-coefficient : (n : ℕ) (c : ℕ → Bool) (s : ℕ) → polynomial n c (bit s) ≡ coefficient n c s
 unfolding polynomial
