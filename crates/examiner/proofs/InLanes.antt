@@ -11,7 +11,7 @@ use mathlib.Core.Bool.{Bool, true, false, not, _&&_, _||_}
 use mathlib.Core.List.{List}
 use mathlib.Core.Path.{_≡_, refl, sym, ap, ap₂, _∙_}
 use Prim.Native.Nat.{ℕ, _+_, _-_, _^_, _≤_, _<_}
-use native.Mathlib.Nat.{lt-of-le-of-lt, sub-le}
+use native.Mathlib.Nat.{le-refl, lt-of-le-of-lt, sub-le}
 use lib.Bits.{bitAnd, bitOr, bitXor, and-le-l, or-lt, xor-lt}
 use lib.Dec.{lit<, lit≤}
 use lib.ListN.{length, getD, set}
@@ -26,7 +26,7 @@ use Rattle.rules.specs.Record.{Kind, Constant, Flag, And, Or, Xor, Not, Found}
 use Rattle.rules.specs.Tree.{Tree, CO, VA, AN, OR, XO, NO, value, cost}
 use Rattle.expr.specs.Answers.{arityOf, orOf, IndexBelow, ended}
 use Rattle.expr.proofs.Costed.{Costed, costed-step, costed-end}
-use Rattle.expr.proofs.Reader.{Read}
+use Rattle.expr.proofs.Reader.{Read, read-index}
 use Rattle.expr.proofs.Walk.{Folds}
 use Rattle.examiner.specs.declared.lanes.Seen.{Seen}
 use Rattle.examiner.specs.Lanes.{lane, lanes, filled, applied, seen}
@@ -119,11 +119,11 @@ module _ (n : ℕ) (ws : List ℕ) where
 
   module _ {s : List ℕ} {count place depth less : ℕ} {a : List ℕ} {ors : List Bool} (w : Costed (lanes n ws) n s count place depth a ors less) where
     pub lanes-step : ((i : ℕ) → getD ws i 0 < 2 ^ 64) → {r : Found} → Read n s place r → count < recordLimit
-        → (base : ℕ) → base + arityOf (r .kind) ≡ depth → base < length a → base < length ors
+        → (base : ℕ) → base + arityOf (r .kind) ≡ depth
         → (v : ℕ) → v ≡ applied ws (r .kind) (getD a base 0) (getD a (base + 1) 0) → (o : Bool) → o ≡ orOf (r .kind)
         → Costed (lanes n ws) n s (count + 1) (r .next) (base + 1) (set a base v) (set ors base o) (less + boolByte (o && getD ors base false))
-    lanes-step small {r} f l base h room space v is =
-        costed-step w lanes-folds 0 f l base h room space v (is ∙ applied-combined small (r .kind) (f .index) (getD a base 0) (getD a (base + 1) 0))
+    lanes-step small {r} f l base h v is =
+        costed-step w lanes-folds 0 f l base h v (is ∙ applied-combined small (r .kind) (read-index f n (le-refl n)) (getD a base 0) (getD a (base + 1) 0))
 
     pub seen-end : length s ≤ place → seen n s ws ≡ ended depth (length s) (gives (record { values = getD a 0 0; cost = count - less }))
     unfolding seen

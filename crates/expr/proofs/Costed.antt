@@ -3,7 +3,8 @@
 -- and Stack and on rules' Saved. Assumes nothing.
 --   saved-push                            == a record saves one where it is an OR and its first operand is an OR
 --   Costed e n s count place depth a ors less
---                                         == a walk, where ors says which trees are ORs and less is what they save
+--                                         == a walk, where ors says which trees are ORs and less is what they save; both arrays have
+--                                            room for as many records as there may be, and one more
 --   costed-start, costed-step             == before the first record; one record more
 --   costed-less, costed-more, costed-fits == no more is saved than records are read, nor with the next record, and so it fits
 --   costed-fold                           == what a fold makes of the array's entries is e of the record's tree
@@ -14,7 +15,7 @@ use mathlib.Core.Path.{_≡_, refl, sym, ap, ap₂, _∙_}
 use Prim.Native.Nat.{ℕ, _+_, _-_, _^_, _≤_, _<_}
 use native.Mathlib.Omega.{arith}
 use lib.Dec.{eqb}
-use lib.ListN.{length, getD, drop, set}
+use lib.ListN.{length, getD, drop, set, length-set}
 use mir.Val.{boolByte}
 use borrow.Author.Tests.{eqb-true}
 use Rattle.bits.specs.Bit.{digit}
@@ -59,10 +60,14 @@ pub record Costed {A : Type 0} (e : Tree → A) (n : ℕ) (s : List ℕ) (count 
   pub image : Image e (walk .stack) a
   pub kinds : Image isOr (walk .stack) ors
   pub saves : total saved (walk .stack) ≡ less
+  pub room : length a ≡ recordLimit + 1
+  pub space : length ors ≡ recordLimit + 1
 
-pub costed-start : {A : Type 0} (e : Tree → A) (n : ℕ) (s : List ℕ) (a : List A) (ors : List Bool) → Costed e n s 0 0 0 a ors 0
+pub costed-start : {A : Type 0} (e : Tree → A) (n : ℕ) (s : List ℕ) (a : List A) (ors : List Bool)
+    → length a ≡ recordLimit + 1 → length ors ≡ recordLimit + 1 → Costed e n s 0 0 0 a ors 0
 unfolding walk-start sum
-costed-start e n s a ors = record { walk = walk-start n s; image = image-empty e a; kinds = image-empty isOr ors; saves = refl }
+costed-start e n s a ors h k =
+    record { walk = walk-start n s; image = image-empty e a; kinds = image-empty isOr ors; saves = refl; room = h; space = k }
 
 module _ {A : Type 0} {e : Tree → A} {n : ℕ} {s : List ℕ} {count place depth less : ℕ} {a : List A} {ors : List Bool}
     (w : Costed e n s count place depth a ors less) where
@@ -85,20 +90,23 @@ module _ {A : Type 0} {e : Tree → A} {n : ℕ} {s : List ℕ} {count place dep
       (λ q. w .image d base (omega arith)) (λ q. w .image d (base + 1) (omega arith))
 
   pub costed-step : {f : Kind → A → A → A} → Folds e f → (d : A) → {r : Found} → Read n s place r → count < recordLimit
-      → (base : ℕ) → base + arityOf (r .kind) ≡ depth → base < length a → base < length ors
+      → (base : ℕ) → base + arityOf (r .kind) ≡ depth
       → (v : A) → v ≡ f (r .kind) (getD a base d) (getD a (base + 1) d)
       → (o : Bool) → o ≡ orOf (r .kind)
       → Costed e n s (count + 1) (r .next) (base + 1) (set a base v) (set ors base o) (less + boolByte (o && getD ors base false))
-  costed-step {f} law d {r} found l base h room space v is o or =
+  costed-step {f} law d {r} found l base h v is o or =
       let deep = w .walk .deep in
+      let high = w .walk .high in
       let first = getD ors base false in
       record {
         walk = walk-step (w .walk) found l base h;
-        image = walk-image (w .walk) found l base h e a v room (is ∙ costed-fold law d (r .kind) base h) (w .image);
-        kinds = walk-image (w .walk) found l base h isOr ors o space (or ∙ or-node (r .kind) _ _) (w .kinds);
+        image = walk-image (w .walk) found l base h e a v (omega arith) (is ∙ costed-fold law d (r .kind) base h) (w .image);
+        kinds = walk-image (w .walk) found l base h isOr ors o (omega arith) (or ∙ or-node (r .kind) _ _) (w .kinds);
         saves = ap (total saved) (walk-stack (w .walk) found l base h)
             ∙ saved-push (r .kind) (w .walk .stack) base first (omega arith) (λ q. w .kinds false base (omega arith))
             ∙ ap₂ _+_ (w .saves) (ap (λ (b : Bool). digit (b && first)) (sym or) ∙ sym (byte-digit (o && first)));
+        room = simp length-set (w .room);
+        space = simp length-set (w .space);
       }
 
   pub costed-end : length s ≤ place → (d : A) → {B : Type 0} (g : A → ℕ → ℕ → Outcome B)

@@ -1,5 +1,5 @@
 -- Laws of the reader's answers on paper: what a record that it finds is good for, and what each of its three answers says of the bytes. They
--- rest on `recordAt` of rules' Record and on `read` of its Calls. Assumes nothing.
+-- rest on rules' RecordAt and on `read` of its Calls. Assumes nothing.
 --   Read n s p r                         == the record r stands at place p, with the facts that every walk needs of it
 --   read-found, read-end, read-refused   == what the reader's three answers say
 --   read-index                           == a found flag's index is below any bound on the flag count
@@ -9,16 +9,17 @@ use mathlib.Core.List.{List}
 use mathlib.Core.Logic.{_⊎_, ⊎-elim}
 use mathlib.Core.Option.{Option, none, some}
 use mathlib.Core.Path.{_≡_, refl}
-use Prim.Native.Nat.{ℕ, _+_, _≤_, _<_}
+use Prim.Native.Nat.{ℕ, _≤_, _<_}
 use native.Mathlib.Omega.{arith}
-use lib.Dec.{eqb, leb, ltb}
-use lib.ListN.{length, getD}
+use lib.Dec.{ltb}
+use lib.ListN.{length}
 use denote.Enum.Declared.{tagOf}
 use borrow.Author.Tests.{ltb-true, ltb-false, le-ltb}
 use Rattle.rules.specs.Calls.{read}
-use Rattle.rules.specs.Limits.{ruleFlags, tooManyFlags, badMark, badPayload}
+use Rattle.rules.specs.Limits.{ruleFlags, tooManyFlags}
 use Rattle.rules.specs.Outcome.{Outcome, gives, refuses, refuse, _then_}
-use Rattle.rules.specs.Record.{Kind, Constant, Flag, And, Or, Xor, Not, Found, marked, plain, loaded, recordAt}
+use Rattle.rules.specs.Record.{Kind, Constant, Flag, And, Or, Xor, Not, Found, recordAt}
+use Rattle.rules.proofs.RecordAt.{FlagBelow, record-read}
 use Rattle.expr.specs.Answers.{IndexBelow}
 use Rattle.expr.specs.declared.Reading.{Reading}
 use Rattle.expr.proofs.Reading.{the-type}
@@ -27,7 +28,7 @@ pub record Read (n : ℕ) (s : List ℕ) (p : ℕ) (r : Found) : Type 0 where
   pub stands : recordAt n s p ≡ gives r
   pub after : p < r .next
   pub within : r .next ≤ length s
-  pub index : IndexBelow n (r .kind)
+  pub index : FlagBelow n (r .kind)
 
 -- two cases are never equal, and from such an equation `cc` shows this one
 clash : {A : Type 0} → _≡_ {A = ℕ} 0 1 → A
@@ -35,58 +36,10 @@ clash e = absurd (omega arith)
 
 -- ---- a record that was found
 
-abbrev Good : ℕ → List ℕ → ℕ → Found → Type 0
-Good n s p r = (p < r .next) × (r .next ≤ length s) × IndexBelow n (r .kind)
+found-read : (n : ℕ) (s : List ℕ) (p : ℕ) (r : Found) → recordAt n s p ≡ gives r → Read n s p r
+found-read n s p r e = let d = record-read n s p r e in record { stands = e; after = d .ahead; within = d .inside; index = d .flag }
 
-data Sound (n : ℕ) (s : List ℕ) (p : ℕ) : Outcome Found → Type 0 where
-  found : (r : Found) → Good n s p r → Sound n s p (gives r)
-  refused : {k q : ℕ} → Sound n s p (refuses k q)
-
-module _ (n : ℕ) (s : List ℕ) (p : ℕ) where
-  either : (b : Bool) {o o′ : Outcome Found} → Sound n s p o → Sound n s p o′ → Sound n s p (elim b [ true ↦ o | false ↦ o′ ])
-  either true x y = x
-  either false x y = y
-
-  row : (b : Bool) (k q : ℕ) {o : Outcome Found} → (b ≡ false → Sound n s p o) → Sound n s p (refuse b k q o)
-  row true k q x = refused
-  row false k q x = x refl
-
-  plain-sound : (k : Kind) → IndexBelow n k → p + 2 ≤ length s → Sound n s p (plain k p)
-  unfolding plain
-  plain-sound k i h = found (record { kind = k; next = p + 2 }) (omega arith, h, i)
-
-  loaded-sound : (fits : Bool) (k : Kind) → (fits ≡ true → IndexBelow n k) → Sound n s p (loaded s p fits k)
-  unfolding loaded
-  loaded-sound fits k i = row (ltb (length s) (p + 3)) badPayload p (λ e. present fits i (ltb-false (length s) (p + 3) e))
-    where
-      present : (f : Bool) → (f ≡ true → IndexBelow n k) → p + 3 ≤ length s
-          → Sound n s p (elim f [ true ↦ gives (record { kind = k; next = p + 3 }) | false ↦ refuses badPayload p ])
-      present true j h = found (record { kind = k; next = p + 3 }) (omega arith, h, j refl)
-      present false j h = refused
-
-  record-sound : Sound n s p (recordAt n s p)
-  unfolding recordAt
-  record-sound =
-      row (ltb (length s) (p + 2)) badMark p
-      (λ e. let h = ltb-false (length s) (p + 2) e in
-      let b : ℕ = getD s (p + 2) 0 in
-      either (marked s p "CO") (loaded-sound (leb b 1) (Constant (eqb b 1)) (λ e. tt))
-      (either (marked s p "VA") (loaded-sound (ltb b n) (Flag b) (ltb-true b n))
-      (either (marked s p "AN") (plain-sound And tt h)
-      (either (marked s p "OR") (plain-sound Or tt h)
-      (either (marked s p "XO") (plain-sound Xor tt h)
-      (either (marked s p "NO") (plain-sound Not tt h) refused))))))
-
-  sound-good : {o : Outcome Found} → Sound n s p o → (r : Found) → o ≡ gives r → Good n s p r
-  sound-good (found q f) r e = let same : q ≡ r = cc in rw same at f
-  sound-good refused r e = clash (cc)
-
-  record-read : (r : Found) → recordAt n s p ≡ gives r → Read n s p r
-  record-read r e =
-      let g = sound-good record-sound r e in
-      record { stands = e; after = g .0; within = g .1; index = g .2 }
-
-index-more : (n m : ℕ) → n ≤ m → (k : Kind) → IndexBelow n k → IndexBelow m k
+index-more : (n m : ℕ) → n ≤ m → (k : Kind) → FlagBelow n k → IndexBelow m k
 index-more n m l (Constant b) h = tt
 index-more n m l (Flag i) h = omega arith
 index-more n m l And h = tt
@@ -124,7 +77,7 @@ module _ (n : ℕ) (s : List ℕ) (p : ℕ) where
     where
       go : (a b : Bool) → answer a b ≡ gives (some r) → Read n s p r
       go true b h = clash (cc)
-      go false true h = record-read n s p r (then-found (recordAt n s p) r h)
+      go false true h = found-read n s p r (then-found (recordAt n s p) r h)
       go false false h = clash (cc)
 
   pub read-end : read n s p ≡ gives none → length s ≤ p

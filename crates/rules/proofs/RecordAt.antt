@@ -1,9 +1,9 @@
--- What the reader answers at a place: where a whole record stands it is that record, and what is answered stood there. The second wants a
--- byte below 256, since a mark is two letters as one number; a slice of bytes always meets it. Beyond that it assumes nothing.
+-- What the reader answers at a place: where a whole record stands it is that record, and what is answered stood there. That its bytes are the record's
+-- wants a byte below 256, since a mark is two letters as one number; a slice of bytes always meets it. Beyond that it assumes nothing.
 --   bytesOf k, bytesOf-long     == the bytes of a record, two at least
 --   FlagBelow n k               == a flag's index is below n
 --   record-at                   == a whole record is read where the rest begins with it
---   Read, record-read           == what is read stood there, if the byte behind the first is below 256
+--   Read, record-read           == what is read stood there, whole and with a flag below n; its bytes too, if the one behind the first is below 256
 use mathlib.Core.Bool.{Bool, true, false}
 use mathlib.Core.List.{List, [], _∷_, _++_}
 use mathlib.Core.Path.{_≡_, refl, sym, ap, ap₂, _∙_, subst}
@@ -85,7 +85,7 @@ module _ (n : ℕ) (s : List ℕ) (p : ℕ) where
   record-at Not b e f = at-mark 78 79 b e
 
 pub record Read (n : ℕ) (s : List ℕ) (p : ℕ) (r : Found) : Type 0 where
-  pub bytes : drop p s ≡ bytesOf (r .kind) ++ drop (r .next) s
+  pub bytes : getD s (p + 1) 0 < 256 → drop p s ≡ bytesOf (r .kind) ++ drop (r .next) s
   pub next : r .next ≡ p + length (bytesOf (r .kind))
   pub ahead : p < r .next
   pub inside : r .next ≤ length s
@@ -98,7 +98,7 @@ mark-two (u ∷ []) x y h a b e = absurd (omega arith)
 mark-two (u ∷ v ∷ l) x y h a b e = ap₂ {C = List ℕ} (λ c d. c ∷ d ∷ l) (omega arith) (omega arith)
 
 module _ (n : ℕ) (s : List ℕ) (p : ℕ) (r : Found) where
-  read-of : (k : Kind) → FlagBelow n k → p + length (bytesOf k) ≤ length s → drop p s ≡ bytesOf k ++ drop (p + length (bytesOf k)) s
+  read-of : (k : Kind) → FlagBelow n k → p + length (bytesOf k) ≤ length s → (getD s (p + 1) 0 < 256 → drop p s ≡ bytesOf k ++ drop (p + length (bytesOf k)) s)
       → _≡_ {A = Outcome Found} (gives (record { kind = k; next = p + length (bytesOf k) })) (gives r) → Read n s p r
   read-of k f l e q = subst (Read n s p) (gives-same q) (record { bytes = e; next = refl; ahead = omega (arith, bytesOf-long k); inside = l; flag = f })
 
@@ -110,16 +110,16 @@ module _ (n : ℕ) (s : List ℕ) (p : ℕ) (r : Found) where
       pick-gives fits _ _ r (λ t g. (ltb-false (length s) (p + 3) (q .0), t, g))
       (λ t g. let z : _≡_ {A = ℕ} 0 1 = cc in absurd (omega arith)) (q .1)
 
-  module _ (small : getD s (p + 1) 0 < 256) (long : p + 2 ≤ length s) where
-    mark-bytes : (x y : ℕ) → y < 256 → eqb (mark (drop p s)) (x * 256 + y) ≡ true → drop p s ≡ x ∷ y ∷ drop (p + 2) s
-    mark-bytes x y h e =
+  module _ (long : p + 2 ≤ length s) where
+    mark-bytes : (x y : ℕ) → y < 256 → eqb (mark (drop p s)) (x * 256 + y) ≡ true → getD s (p + 1) 0 < 256 → drop p s ≡ x ∷ y ∷ drop (p + 2) s
+    mark-bytes x y h e small =
         mark-two (drop p s) x y (omega (arith, length-drop p s)) (omega (arith, getD-drop p s 1 0)) h (eqb-true _ _ e)
         ∙ ap {B = List ℕ} (λ l. x ∷ y ∷ l) (drop-drop 2 p s)
 
-    payload-bytes : (x y : ℕ) → y < 256 → eqb (mark (drop p s)) (x * 256 + y) ≡ true → p + 3 ≤ length s
+    payload-bytes : (x y : ℕ) → y < 256 → eqb (mark (drop p s)) (x * 256 + y) ≡ true → p + 3 ≤ length s → getD s (p + 1) 0 < 256
         → drop p s ≡ x ∷ y ∷ getD s (p + 2) 0 ∷ drop (p + 3) s
-    payload-bytes x y h e l =
-        mark-bytes x y h e
+    payload-bytes x y h e l small =
+        mark-bytes x y h e small
         ∙ ap {B = List ℕ} (λ l. x ∷ y ∷ l) (drop-cons s (p + 2) 0 (omega arith) ∙ ap {B = List ℕ} (λ i. getD s (p + 2) 0 ∷ drop i s) (sym (add-suc p 2)))
 
     constant-read : marked s p "CO" ≡ true → loaded s p (leb (getD s (p + 2) 0) 1) (Constant (eqb (getD s (p + 2) 0) 1)) ≡ gives r → Read n s p r
@@ -128,8 +128,8 @@ module _ (n : ℕ) (s : List ℕ) (p : ℕ) (r : Found) where
         let c : ℕ = getD s (p + 2) 0 in
         let l = loaded-gives (leb c 1) (Constant (eqb c 1)) g in
         let b = payload-bytes 67 79 (lit< tt) t (l .0) in
-        let small = leb-true c 1 (l .1) in
-        read-of (Constant (eqb c 1)) tt (l .0) (b ∙ ap {B = List ℕ} (λ d. 67 ∷ 79 ∷ d ∷ drop (p + 3) s) (sym (digit-eqb c (omega arith)))) (l .2)
+        let one = leb-true c 1 (l .1) in
+        read-of (Constant (eqb c 1)) tt (l .0) (λ small. b small ∙ ap {B = List ℕ} (λ d. 67 ∷ 79 ∷ d ∷ drop (p + 3) s) (sym (digit-eqb c (omega arith)))) (l .2)
 
     flag-read : marked s p "VA" ≡ true → loaded s p (ltb (getD s (p + 2) 0) n) (Flag (getD s (p + 2) 0)) ≡ gives r → Read n s p r
     unfolding marked mark ascii bytesOf
@@ -138,15 +138,15 @@ module _ (n : ℕ) (s : List ℕ) (p : ℕ) (r : Found) where
         let l = loaded-gives (ltb c n) (Flag c) g in
         read-of (Flag c) (ltb-true c n (l .1)) (l .0) (payload-bytes 86 65 (lit< tt) t (l .0)) (l .2)
 
-  pub record-read : getD s (p + 1) 0 < 256 → recordAt n s p ≡ gives r → Read n s p r
+  pub record-read : recordAt n s p ≡ gives r → Read n s p r
   unfolding recordAt bytesOf ascii marked mark plain
-  record-read small e =
+  record-read e =
       let q = refuse-gives (ltb (length s) (p + 2)) _ _ _ r e in
       let long : p + 2 ≤ length s = ltb-false (length s) (p + 2) (q .0) in
-      pick-gives (marked s p "CO") _ _ r (constant-read small long)
-      (λ _. pick-gives (marked s p "VA") _ _ r (flag-read small long)
-      (λ _. pick-gives (marked s p "AN") _ _ r (λ t. read-of And tt long (mark-bytes small long 65 78 (lit< tt) t))
-      (λ _. pick-gives (marked s p "OR") _ _ r (λ t. read-of Or tt long (mark-bytes small long 79 82 (lit< tt) t))
-      (λ _. pick-gives (marked s p "XO") _ _ r (λ t. read-of Xor tt long (mark-bytes small long 88 79 (lit< tt) t))
-      (λ _. pick-gives (marked s p "NO") _ _ r (λ t. read-of Not tt long (mark-bytes small long 78 79 (lit< tt) t))
+      pick-gives (marked s p "CO") _ _ r (constant-read long)
+      (λ _. pick-gives (marked s p "VA") _ _ r (flag-read long)
+      (λ _. pick-gives (marked s p "AN") _ _ r (λ t. read-of And tt long (mark-bytes long 65 78 (lit< tt) t))
+      (λ _. pick-gives (marked s p "OR") _ _ r (λ t. read-of Or tt long (mark-bytes long 79 82 (lit< tt) t))
+      (λ _. pick-gives (marked s p "XO") _ _ r (λ t. read-of Xor tt long (mark-bytes long 88 79 (lit< tt) t))
+      (λ _. pick-gives (marked s p "NO") _ _ r (λ t. read-of Not tt long (mark-bytes long 78 79 (lit< tt) t))
       (λ _ g. let z : _≡_ {A = ℕ} 0 1 = cc in absurd (omega arith))))))) (q .1)

@@ -55,11 +55,11 @@ module _ (n : ℕ) (s : List ℕ) (t : Tree) where
   run-is small (suc k) p ts e = elim (decLt p (length s)) [
     | yes h ↦
         let u = run-gives n s p ts h k t e in
-        let r = record-read n s p (u .found) (below-getD 256 s 0 (lit< tt) small (p + 1)) (u .reads) in
+        let r = record-read n s p (u .found) (u .reads) in
         let d = pushed (u .found .kind) ts (u .stack) (u .pushes) in
         let i = run-is small k (u .found .next) (u .stack) (u .rest) in
         record {
-          bytes = rw (r .bytes, ← append-assoc, ← d .bytes) (i .bytes);
+          bytes = rw (r .bytes (below-getD 256 s 0 (lit< tt) small (p + 1)), ← append-assoc, ← d .bytes) (i .bytes);
           records = omega arith;
           flags = λ f. i .flags (d .flags n (r .flag) f);
         }

@@ -1,18 +1,18 @@
 -- `expr_cost::walk` meets its contract. The loop's invariant: the arrays hold the depths of the machine's trees and which of them are ORs, and `saved`
 -- is what these save. The measure is the number of records that may still begin. From the laws of expr's Walk and Costed, Depth and TreeCosts.
 -- Assumes nothing.
-use mathlib.Core.Path.{_≡_, refl, sym, ap, _∙_}
+use mathlib.Core.Path.{refl, sym, ap, _∙_}
 use Prim.Native.Nat.{ℕ, _-_, _+_}
 use native.Mathlib.Omega.{arith}
-use lib.ListN.{length, getD, length-set}
+use lib.ListN.{getD}
 use denote.Ref.{now}
 use borrow.Author.Needs.{needs}
 use Rattle.rules.specs.Limits.{recordLimit}
 use Rattle.rules.specs.Tree as tree
-use Rattle.expr.specs.Answers.{readingOf, kindOf}
-use Rattle.expr.specs.declared.Reading.{Reading}
-use Rattle.expr.proofs.Reader.{Read, read-found, read-end, only-end}
-use Rattle.expr.proofs.Walk.{walk-few, walk-refused, walk-many}
+use Rattle.expr.specs.Answers.{kindOf}
+use Rattle.expr.proofs.Reader.{Read}
+use Rattle.expr.proofs.Walk.{walk-few, walk-many}
+use Rattle.expr.proofs.Turn.{turn-found, turn-end, turn-refused}
 use Rattle.expr.proofs.Costed.{Costed, costed-start, costed-step, costed-less, costed-fits}
 use Rattle.expr_cost.specs.Answers.{costingOf, deepest}
 use Rattle.expr_cost.proofs.Depth.{depth-folds, deepest-limit}
@@ -22,7 +22,7 @@ use Rattle.expr_cost.proofs.walk.Tie as tie
 
 abbrev Inv-loop : tie.InvT-loop
 Inv-loop flags bytes stack₀ ors₀ depth₀ place₀ count₀ saved₀ stack ors depth place count saved =
-    Costed tree.depth flags bytes count place depth stack ors saved × (length stack ≡ 386) × (length ors ≡ 386)
+    Costed tree.depth flags bytes count place depth stack ors saved
 
 abbrev μ-loop : tie.MeasureT-loop
 μ-loop flags bytes stack₀ ors₀ depth₀ place₀ count₀ saved₀ stack ors depth place count saved = recordLimit - count
@@ -30,7 +30,7 @@ abbrev μ-loop : tie.MeasureT-loop
 loop-holds : tie.Need-loop-holds Inv-loop μ-loop
 loop-holds c =
     let a = c .before .args in
-    (costed-start tree.depth (a .flags) (now (a .bytes)) _ _, refl, refl)
+    costed-start tree.depth (a .flags) (now (a .bytes)) _ _ refl refl
 
 read-requires : tie.Need-read-requires Inv-loop μ-loop
 read-requires c κs = search needs
@@ -45,32 +45,27 @@ array-read-finished : tie.Need-array-read-finished Inv-loop μ-loop
 array-read-finished c = search needs
 
 finished-requires : tie.Need-finished-requires Inv-loop μ-loop
-finished-requires c κs = costed-less (c .before .before .before .before .loop .inv .0)
+finished-requires c κs = costed-less (c .before .before .before .before .loop .inv)
 
 -- the record that the reader found
 found : (c : tie.After-answer Inv-loop μ-loop)
     → (let a = c .before .before .before .before .before .before .args in
     let node = c .answer .given .0 .0 in
     Read (a .flags) (now (a .bytes)) (c .before .before .before .before .loop .place) (record { kind = kindOf (node .kind); next = node .next }))
-found c =
-    let a = c .before .before .before .before .before .before .args in
-    read-found (a .flags) (now (a .bytes)) (c .before .before .before .before .loop .place) _
-    (sym (c .before .before .read .ensures) ∙ ap readingOf (c .answer .given .1))
+found c = turn-found (c .before .before .before .before .loop .inv .walk) (c .answer .given .1) (c .before .before .read .ensures)
 
 returns : tie.Need-returns Inv-loop μ-loop
 returns c =
-    let a = c .before .before .before .before .before .before .before .args in
     let l = c .before .before .before .before .before .loop in
     let r = c .before .before .before .read in
-    let end : r .result ≡ Reading.End = only-end (r .result) (c .before .before .match .keys2) (c .before .match2 .keys2) in
-    let past = read-end (a .flags) (now (a .bytes)) (l .place) (sym (r .ensures) ∙ ap readingOf end) in
-    costing-end (l .inv .0) (omega arith) past (c .finished .ensures)
+    let past = turn-end (l .inv .walk) (r .result) (c .before .before .match .keys2) (c .before .match2 .keys2) (r .ensures) in
+    costing-end (l .inv) (omega arith) past (c .finished .ensures)
 
 returns-2 : tie.Need-returns-2 Inv-loop μ-loop
 returns-2 c =
     let l = c .before .before .before .before .before .before .loop in
-    let told = sym (c .before .before .before .before .read .ensures) ∙ ap readingOf (c .before .answer2 .given .1) in
-    sym (costing-refused _ _ _ _ (omega arith) (walk-refused (l .inv .0 .walk) (omega arith) (omega arith) told))
+    let answer = c .before .answer2 .given .1 in
+    sym (costing-refused _ _ _ _ (omega arith) (turn-refused (l .inv .walk) answer (c .before .before .before .before .read .ensures) (omega arith) (omega arith)))
 
 arity-requires : tie.Need-arity-requires Inv-loop μ-loop
 arity-requires c κs = search needs
@@ -82,7 +77,7 @@ returns-3 : tie.Need-returns-3 Inv-loop μ-loop
 returns-3 c =
     let l = c .before .before .before .before .before .before .before .before .loop in
     ap costingOf (c .refused .ensures)
-    ∙ sym (costing-refused _ _ _ _ (omega arith) (walk-few (l .inv .0 .walk) (found (c .before .before .before .before)) (omega arith) (omega arith)))
+    ∙ sym (costing-refused _ _ _ _ (omega arith) (walk-few (l .inv .walk) (found (c .before .before .before .before)) (omega arith) (omega arith)))
 
 add-above : tie.Need-add-above Inv-loop μ-loop
 add-above c = search needs
@@ -99,7 +94,7 @@ cast-saved c = search needs
 add-saved : tie.Need-add-saved Inv-loop μ-loop
 add-saved c =
     let l = c .before .before .before .before .before .before .before .before .loop in
-    search (costed-fits (l .inv .0) (omega arith))
+    search (costed-fits (l .inv) (omega arith))
 
 array-write-ors : tie.Need-array-write-ors Inv-loop μ-loop
 array-write-ors c = search needs
@@ -121,7 +116,7 @@ deeper-requires c κs =
     let l = c .before .before .before .before .before .before .before .before .loop in
     let arity = c .before .before .arity in
     let base = l .depth - arity .result in
-    omega (arith, deepest-limit (l .inv .0) (found (c .before .before .before .before)) (omega arith) (arity .ensures) base (omega arith))
+    omega (arith, deepest-limit (l .inv) (found (c .before .before .before .before)) (omega arith) (arity .ensures) base (omega arith))
 
 mul-stack : tie.Need-mul-stack Inv-loop μ-loop
 mul-stack c = search needs
@@ -141,11 +136,8 @@ loop-again c =
     let arity = c .before .before .before .arity in
     let base = l .depth - arity .result in
     let is = c .deeper .ensures ∙ ap (λ (k : ℕ). deepest k (getD (l .stack) base 0) (getD (l .stack) (base + 1) 0)) (arity .ensures) in
-    let here = found (c .before .before .before .before .before) in (
-      costed-step (l .inv .0) depth-folds 0 here (omega arith) base (omega arith) (omega arith) (omega arith) _ is _ (c .before .is-or .ensures),
-      simp length-set (l .inv .1),
-      simp length-set (l .inv .2),
-    )
+    let here = found (c .before .before .before .before .before) in
+    costed-step (l .inv) depth-folds 0 here (omega arith) base (omega arith) _ is _ (c .before .is-or .ensures)
 
 refused-requires-2 : tie.Need-refused-requires-2 Inv-loop μ-loop
 refused-requires-2 c κs = search needs
@@ -154,18 +146,18 @@ returns-4 : tie.Need-returns-4 Inv-loop μ-loop
 returns-4 c =
     let l = c .before .before .before .loop in
     ap costingOf (c .refused2 .ensures)
-    ∙ sym (costing-refused _ _ _ _ (omega arith) (walk-many (l .inv .0 .walk) (omega arith) (c .before .if2 .taken)))
+    ∙ sym (costing-refused _ _ _ _ (omega arith) (walk-many (l .inv .walk) (omega arith) (c .before .if2 .taken)))
 
 array-read-finished-2 : tie.Need-array-read-finished-2 Inv-loop μ-loop
 array-read-finished-2 c = search needs
 
 finished-requires-2 : tie.Need-finished-requires-2 Inv-loop μ-loop
-finished-requires-2 c κs = costed-less (c .before .before .loop .inv .0)
+finished-requires-2 c κs = costed-less (c .before .before .loop .inv)
 
 returns-5 : tie.Need-returns-5 Inv-loop μ-loop
 returns-5 c =
     let l = c .before .before .before .loop in
-    costing-end (l .inv .0) (omega arith) (c .before .if2 .left) (c .finished2 .ensures)
+    costing-end (l .inv) (omega arith) (c .before .if2 .left) (c .finished2 .ensures)
 
 pub walk-spec : {M : Type 1} → statement M
 walk-spec =

@@ -1,16 +1,16 @@
 -- `examiner::lanes::walk` meets its contract. The loop's invariant: the records so far are read as the machine reads them, the stack holds the lanes of
 -- its trees, and `saved` is what their ORs save (expr, Costed). The measure is the number of records that may still begin. Assumes nothing.
-use mathlib.Core.Path.{_≡_, refl, sym, ap, _∙_}
+use mathlib.Core.Path.{refl, sym, ap, _∙_}
 use Prim.Native.Nat.{_-_}
 use native.Mathlib.Omega.{arith}
-use lib.ListN.{length, length-set}
+use lib.ListN.{length}
 use denote.Ref.{now}
 use borrow.Author.Needs.{needs}
 use Rattle.rules.specs.Limits.{recordLimit}
-use Rattle.expr.specs.Answers.{readingOf, kindOf}
-use Rattle.expr.specs.declared.Reading.{Reading}
-use Rattle.expr.proofs.Reader.{Read, read-found, read-end, only-end, read-index}
-use Rattle.expr.proofs.Walk.{walk-few, walk-refused, walk-many}
+use Rattle.expr.specs.Answers.{kindOf}
+use Rattle.expr.proofs.Reader.{Read, read-index}
+use Rattle.expr.proofs.Walk.{walk-few, walk-many}
+use Rattle.expr.proofs.Turn.{turn-found, turn-end, turn-refused}
 use Rattle.expr.proofs.Costed.{Costed, costed-start, costed-less, costed-fits}
 use Rattle.examiner.specs.Lanes.{lanes, walkedOf}
 use Rattle.examiner.proofs.InLanes.{lanes-step, seen-refused, seen-end}
@@ -19,7 +19,7 @@ use Rattle.examiner.proofs.lanes.walk.Tie as tie
 
 abbrev Inv-loop : tie.InvT-loop
 Inv-loop flags bytes words stack₀ ors₀ depth₀ place₀ count₀ saved₀ stack ors depth place count saved =
-    Costed (lanes flags words) flags bytes count place depth stack ors saved × (length stack ≡ 386) × (length ors ≡ 386)
+    Costed (lanes flags words) flags bytes count place depth stack ors saved
 
 abbrev μ-loop : tie.MeasureT-loop
 μ-loop flags bytes words stack₀ ors₀ depth₀ place₀ count₀ saved₀ stack ors depth place count saved =
@@ -28,7 +28,7 @@ abbrev μ-loop : tie.MeasureT-loop
 loop-holds : tie.Need-loop-holds Inv-loop μ-loop
 loop-holds c =
     let a = c .before .before .args in
-    (costed-start (lanes (a .flags) (now (a .words))) (a .flags) (now (a .bytes)) _ _, refl, refl)
+    costed-start (lanes (a .flags) (now (a .words))) (a .flags) (now (a .bytes)) _ _ refl refl
 
 read-requires : tie.Need-read-requires Inv-loop μ-loop
 read-requires c κs = search needs
@@ -43,7 +43,7 @@ array-read-finished : tie.Need-array-read-finished Inv-loop μ-loop
 array-read-finished c = search needs
 
 sub-finished : tie.Need-sub-finished Inv-loop μ-loop
-sub-finished c = costed-less (c .before .before .before .before .loop .inv .0)
+sub-finished c = costed-less (c .before .before .before .before .loop .inv)
 
 finished-requires : tie.Need-finished-requires Inv-loop μ-loop
 finished-requires c κs = search needs
@@ -53,24 +53,20 @@ found : (c : tie.After-answer Inv-loop μ-loop)
     → (let a = c .before .before .before .before .before .before .before .args in
     let node = c .answer .given .0 .0 in
     Read (a .flags) (now (a .bytes)) (c .before .before .before .before .loop .place) (record { kind = kindOf (node .kind); next = node .next }))
-found c =
-    let a = c .before .before .before .before .before .before .before .args in
-    read-found (a .flags) (now (a .bytes)) (c .before .before .before .before .loop .place) _ (sym (c .before .before .read .ensures) ∙ ap readingOf (c .answer .given .1))
+found c = turn-found (c .before .before .before .before .loop .inv .walk) (c .answer .given .1) (c .before .before .read .ensures)
 
 returns : tie.Need-returns Inv-loop μ-loop
 returns c =
-    let a = c .before .before .before .before .before .before .before .before .args in
     let l = c .before .before .before .before .before .loop in
     let r = c .before .before .before .read in
-    let end : r .result ≡ Reading.End = only-end (r .result) (c .before .before .match .keys2) (c .before .match2 .keys2) in
-    c .finished .ensures
-    ∙ sym (seen-end _ _ (l .inv .0) (read-end (a .flags) (now (a .bytes)) (l .place) (sym (r .ensures) ∙ ap readingOf end)))
+    let past = turn-end (l .inv .walk) (r .result) (c .before .before .match .keys2) (c .before .match2 .keys2) (r .ensures) in
+    c .finished .ensures ∙ sym (seen-end _ _ (l .inv) past)
 
 returns-2 : tie.Need-returns-2 Inv-loop μ-loop
 returns-2 c =
     let l = c .before .before .before .before .before .before .loop in
-    sym (seen-refused _ _ _ (walk-refused (l .inv .0 .walk) (omega arith) (omega arith)
-    (sym (c .before .before .before .before .read .ensures) ∙ ap readingOf (c .before .answer2 .given .1))))
+    let answer = c .before .answer2 .given .1 in
+    sym (seen-refused _ _ _ (turn-refused (l .inv .walk) answer (c .before .before .before .before .read .ensures) (omega arith) (omega arith)))
 
 arity-requires : tie.Need-arity-requires Inv-loop μ-loop
 arity-requires c κs = search needs
@@ -82,7 +78,7 @@ returns-3 : tie.Need-returns-3 Inv-loop μ-loop
 returns-3 c =
     let l = c .before .before .before .before .before .before .before .before .loop in
     ap walkedOf (c .refused .ensures)
-    ∙ sym (seen-refused _ _ _ (walk-few (l .inv .0 .walk) (found (c .before .before .before .before)) (omega arith) (omega arith)))
+    ∙ sym (seen-refused _ _ _ (walk-few (l .inv .walk) (found (c .before .before .before .before)) (omega arith) (omega arith)))
 
 add-second : tie.Need-add-second Inv-loop μ-loop
 add-second c = search needs
@@ -99,7 +95,7 @@ cast-saved c = search needs
 add-saved : tie.Need-add-saved Inv-loop μ-loop
 add-saved c =
     let l = c .before .before .before .before .before .before .before .before .loop in
-    search (costed-fits (l .inv .0) (omega arith))
+    search (costed-fits (l .inv) (omega arith))
 
 array-write-ors : tie.Need-array-write-ors Inv-loop μ-loop
 array-write-ors c = search needs
@@ -137,12 +133,9 @@ loop-again : tie.Need-loop-again Inv-loop μ-loop
 loop-again c =
     let l = c .before .before .before .before .before .before .before .before .before .loop in
     let known = c .before .before .before .before .before .before .before .before .before .before in
-    let f = found (c .before .before .before .before .before) in (
-      lanes-step _ _ (l .inv .0) (λ i. known .shared-slice-known2 .given i .fits) f (omega arith) _ (omega arith) (omega arith) (omega arith)
-          (c .value .result) (c .value .ensures) _ (c .before .is-or .ensures),
-      simp length-set (l .inv .1),
-      simp length-set (l .inv .2),
-    )
+    let here = found (c .before .before .before .before .before) in
+    lanes-step _ _ (l .inv) (λ i. known .shared-slice-known2 .given i .fits) here (omega arith) _ (omega arith)
+    (c .value .result) (c .value .ensures) _ (c .before .is-or .ensures)
 
 refused-requires-2 : tie.Need-refused-requires-2 Inv-loop μ-loop
 refused-requires-2 c κs = search needs
@@ -151,13 +144,13 @@ returns-4 : tie.Need-returns-4 Inv-loop μ-loop
 returns-4 c =
     let l = c .before .before .before .loop in
     ap walkedOf (c .refused2 .ensures)
-    ∙ sym (seen-refused _ _ _ (walk-many (l .inv .0 .walk) (omega arith) (c .before .if2 .taken)))
+    ∙ sym (seen-refused _ _ _ (walk-many (l .inv .walk) (omega arith) (c .before .if2 .taken)))
 
 array-read-finished-2 : tie.Need-array-read-finished-2 Inv-loop μ-loop
 array-read-finished-2 c = search needs
 
 sub-finished-2 : tie.Need-sub-finished-2 Inv-loop μ-loop
-sub-finished-2 c = costed-less (c .before .before .loop .inv .0)
+sub-finished-2 c = costed-less (c .before .before .loop .inv)
 
 finished-requires-2 : tie.Need-finished-requires-2 Inv-loop μ-loop
 finished-requires-2 c κs = search needs
@@ -165,7 +158,7 @@ finished-requires-2 c κs = search needs
 returns-5 : tie.Need-returns-5 Inv-loop μ-loop
 returns-5 c =
     let l = c .before .before .before .loop in
-    c .finished2 .ensures ∙ sym (seen-end _ _ (l .inv .0) (c .before .if2 .left))
+    c .finished2 .ensures ∙ sym (seen-end _ _ (l .inv) (c .before .if2 .left))
 
 pub walk-spec : {M : Type 1} → statement M
 walk-spec =
