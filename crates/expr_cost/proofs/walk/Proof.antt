@@ -32,18 +32,6 @@ loop-holds c =
     let a = c .before .args in
     costed-start tree.depth (a .flags) (now (a .bytes)) _ _ refl refl
 
-read-requires : tie.Need-read-requires Inv-loop μ-loop
-read-requires c κs = search needs
-
-enum-known-answer : tie.Need-enum-known-answer Inv-loop μ-loop
-enum-known-answer c = search needs
-
-enum-known-answer-2 : tie.Need-enum-known-answer-2 Inv-loop μ-loop
-enum-known-answer-2 c = search needs
-
-array-read-finished : tie.Need-array-read-finished Inv-loop μ-loop
-array-read-finished c = search needs
-
 finished-requires : tie.Need-finished-requires Inv-loop μ-loop
 finished-requires c κs = costed-less (c .before .before .before .before .loop .inv)
 
@@ -67,49 +55,16 @@ returns-2 c =
     let answer = c .before .answer2 .given .1 in
     sym (costing-refused _ _ _ _ (omega arith) (turn-refused (l .inv .walk) answer (c .before .before .before .before .read .ensures) (omega arith) (omega arith)))
 
-arity-requires : tie.Need-arity-requires Inv-loop μ-loop
-arity-requires c κs = search needs
-
-refused-requires : tie.Need-refused-requires Inv-loop μ-loop
-refused-requires c κs = search needs
-
 returns-3 : tie.Need-returns-3 Inv-loop μ-loop
 returns-3 c =
     let l = c .before .before .before .before .before .before .before .before .loop in
     ap costingOf (c .refused .ensures)
     ∙ sym (costing-refused _ _ _ _ (omega arith) (walk-few (l .inv .walk) (found (c .before .before .before .before)) (omega arith) (omega arith)))
 
-add-above : tie.Need-add-above Inv-loop μ-loop
-add-above c = search needs
-
-is-or-requires : tie.Need-is-or-requires Inv-loop μ-loop
-is-or-requires c κs = search needs
-
-array-read-saved : tie.Need-array-read-saved Inv-loop μ-loop
-array-read-saved c = search needs
-
-cast-saved : tie.Need-cast-saved Inv-loop μ-loop
-cast-saved c = search needs
-
 add-saved : tie.Need-add-saved Inv-loop μ-loop
 add-saved c =
     let l = c .before .before .before .before .before .before .before .before .loop in
     search (costed-fits (l .inv) (omega arith))
-
-array-write-ors : tie.Need-array-write-ors Inv-loop μ-loop
-array-write-ors c = search needs
-
-mul-deeper : tie.Need-mul-deeper Inv-loop μ-loop
-mul-deeper c = search needs
-
-array-read-deeper : tie.Need-array-read-deeper Inv-loop μ-loop
-array-read-deeper c = search needs
-
-mul-deeper-2 : tie.Need-mul-deeper-2 Inv-loop μ-loop
-mul-deeper-2 c = search needs
-
-array-read-deeper-2 : tie.Need-array-read-deeper-2 Inv-loop μ-loop
-array-read-deeper-2 c = search needs
 
 deeper-requires : tie.Need-deeper-requires Inv-loop μ-loop
 deeper-requires c κs =
@@ -117,18 +72,6 @@ deeper-requires c κs =
     let arity = c .before .before .arity in
     let base = l .depth - arity .result in
     omega (arith, deepest-limit (l .inv) (found (c .before .before .before .before)) (omega arith) (arity .ensures) base (omega arith))
-
-mul-stack : tie.Need-mul-stack Inv-loop μ-loop
-mul-stack c = search needs
-
-array-write-stack : tie.Need-array-write-stack Inv-loop μ-loop
-array-write-stack c = search needs
-
-add-count : tie.Need-add-count Inv-loop μ-loop
-add-count c = search needs
-
-loop-less : tie.Need-loop-less Inv-loop μ-loop
-loop-less c = search needs
 
 loop-again : tie.Need-loop-again Inv-loop μ-loop
 loop-again c =
@@ -139,17 +82,11 @@ loop-again c =
     let here = found (c .before .before .before .before .before) in
     costed-step (l .inv) depth-folds 0 here (omega arith) base (omega arith) _ is _ (c .before .is-or .ensures)
 
-refused-requires-2 : tie.Need-refused-requires-2 Inv-loop μ-loop
-refused-requires-2 c κs = search needs
-
 returns-4 : tie.Need-returns-4 Inv-loop μ-loop
 returns-4 c =
     let l = c .before .before .before .loop in
     ap costingOf (c .refused2 .ensures)
     ∙ sym (costing-refused _ _ _ _ (omega arith) (walk-many (l .inv .walk) (omega arith) (c .before .if2 .taken)))
-
-array-read-finished-2 : tie.Need-array-read-finished-2 Inv-loop μ-loop
-array-read-finished-2 c = search needs
 
 finished-requires-2 : tie.Need-finished-requires-2 Inv-loop μ-loop
 finished-requires-2 c κs = costed-less (c .before .before .loop .inv)
@@ -162,38 +99,8 @@ returns-5 c =
 pub walk-spec : {M : Type 1} → statement M
 walk-spec =
     tie.close
-    (tie.spec
-    Inv-loop
-    μ-loop
-    loop-holds
-    read-requires
-    enum-known-answer
-    enum-known-answer-2
-    array-read-finished
-    finished-requires
-    returns
-    returns-2
-    arity-requires
-    refused-requires
-    returns-3
-    add-above
-    is-or-requires
-    array-read-saved
-    cast-saved
-    add-saved
-    array-write-ors
-    mul-deeper
-    array-read-deeper
-    mul-deeper-2
-    array-read-deeper-2
-    deeper-requires
-    mul-stack
-    array-write-stack
-    add-count
-    loop-less
-    loop-again
-    refused-requires-2
-    returns-4
-    array-read-finished-2
-    finished-requires-2
-    returns-5)
+    (tie.spec Inv-loop μ-loop loop-holds (λ c κs. search needs) (λ c. search needs) (λ c. search needs) (λ c. search needs)
+    finished-requires returns returns-2 (λ c κs. search needs) (λ c κs. search needs) returns-3 (λ c. search needs) (λ c κs. search needs)
+    (λ c. search needs) (λ c. search needs) add-saved (λ c. search needs) (λ c. search needs) (λ c. search needs) (λ c. search needs)
+    (λ c. search needs) deeper-requires (λ c. search needs) (λ c. search needs) (λ c. search needs) (λ c. search needs) loop-again
+    (λ c κs. search needs) returns-4 (λ c. search needs) finished-requires-2 returns-5)

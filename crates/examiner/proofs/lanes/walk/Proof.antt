@@ -30,23 +30,8 @@ loop-holds c =
     let a = c .before .before .args in
     costed-start (lanes (a .flags) (now (a .words))) (a .flags) (now (a .bytes)) _ _ refl refl
 
-read-requires : tie.Need-read-requires Inv-loop μ-loop
-read-requires c κs = search needs
-
-enum-known-answer : tie.Need-enum-known-answer Inv-loop μ-loop
-enum-known-answer c = search needs
-
-enum-known-answer-2 : tie.Need-enum-known-answer-2 Inv-loop μ-loop
-enum-known-answer-2 c = search needs
-
-array-read-finished : tie.Need-array-read-finished Inv-loop μ-loop
-array-read-finished c = search needs
-
 sub-finished : tie.Need-sub-finished Inv-loop μ-loop
 sub-finished c = costed-less (c .before .before .before .before .loop .inv)
-
-finished-requires : tie.Need-finished-requires Inv-loop μ-loop
-finished-requires c κs = search needs
 
 -- the record that the reader found
 found : (c : tie.After-answer Inv-loop μ-loop)
@@ -68,66 +53,21 @@ returns-2 c =
     let answer = c .before .answer2 .given .1 in
     sym (seen-refused _ _ _ (turn-refused (l .inv .walk) answer (c .before .before .before .before .read .ensures) (omega arith) (omega arith)))
 
-arity-requires : tie.Need-arity-requires Inv-loop μ-loop
-arity-requires c κs = search needs
-
-refused-requires : tie.Need-refused-requires Inv-loop μ-loop
-refused-requires c κs = search needs
-
 returns-3 : tie.Need-returns-3 Inv-loop μ-loop
 returns-3 c =
     let l = c .before .before .before .before .before .before .before .before .loop in
     ap walkedOf (c .refused .ensures)
     ∙ sym (seen-refused _ _ _ (walk-few (l .inv .walk) (found (c .before .before .before .before)) (omega arith) (omega arith)))
 
-add-second : tie.Need-add-second Inv-loop μ-loop
-add-second c = search needs
-
-is-or-requires : tie.Need-is-or-requires Inv-loop μ-loop
-is-or-requires c κs = search needs
-
-array-read-saved : tie.Need-array-read-saved Inv-loop μ-loop
-array-read-saved c = search needs
-
-cast-saved : tie.Need-cast-saved Inv-loop μ-loop
-cast-saved c = search needs
-
 add-saved : tie.Need-add-saved Inv-loop μ-loop
 add-saved c =
     let l = c .before .before .before .before .before .before .before .before .loop in
     search (costed-fits (l .inv) (omega arith))
 
-array-write-ors : tie.Need-array-write-ors Inv-loop μ-loop
-array-write-ors c = search needs
-
-mul-value : tie.Need-mul-value Inv-loop μ-loop
-mul-value c = search needs
-
-array-read-value : tie.Need-array-read-value Inv-loop μ-loop
-array-read-value c = search needs
-
-mul-value-2 : tie.Need-mul-value-2 Inv-loop μ-loop
-mul-value-2 c = search needs
-
-array-read-value-2 : tie.Need-array-read-value-2 Inv-loop μ-loop
-array-read-value-2 c = search needs
-
 value-requires : tie.Need-value-requires Inv-loop μ-loop
 value-requires c κs =
     let s = c .before .before .before .before .before .before .before .before .before .before .before in
     read-index (found (c .before .before .before .before)) (length (now (s .args .words))) (s .pre .1)
-
-mul-stack : tie.Need-mul-stack Inv-loop μ-loop
-mul-stack c = search needs
-
-array-write-stack : tie.Need-array-write-stack Inv-loop μ-loop
-array-write-stack c = search needs
-
-add-count : tie.Need-add-count Inv-loop μ-loop
-add-count c = search needs
-
-loop-less : tie.Need-loop-less Inv-loop μ-loop
-loop-less c = search needs
 
 loop-again : tie.Need-loop-again Inv-loop μ-loop
 loop-again c =
@@ -137,23 +77,14 @@ loop-again c =
     lanes-step _ _ (l .inv) (λ i. known .shared-slice-known2 .given i .fits) here (omega arith) _ (omega arith)
     (c .value .result) (c .value .ensures) _ (c .before .is-or .ensures)
 
-refused-requires-2 : tie.Need-refused-requires-2 Inv-loop μ-loop
-refused-requires-2 c κs = search needs
-
 returns-4 : tie.Need-returns-4 Inv-loop μ-loop
 returns-4 c =
     let l = c .before .before .before .loop in
     ap walkedOf (c .refused2 .ensures)
     ∙ sym (seen-refused _ _ _ (walk-many (l .inv .walk) (omega arith) (c .before .if2 .taken)))
 
-array-read-finished-2 : tie.Need-array-read-finished-2 Inv-loop μ-loop
-array-read-finished-2 c = search needs
-
 sub-finished-2 : tie.Need-sub-finished-2 Inv-loop μ-loop
 sub-finished-2 c = costed-less (c .before .before .loop .inv)
-
-finished-requires-2 : tie.Need-finished-requires-2 Inv-loop μ-loop
-finished-requires-2 c κs = search needs
 
 returns-5 : tie.Need-returns-5 Inv-loop μ-loop
 returns-5 c =
@@ -163,40 +94,8 @@ returns-5 c =
 pub walk-spec : {M : Type 1} → statement M
 walk-spec =
     tie.close
-    (tie.spec
-    Inv-loop
-    μ-loop
-    loop-holds
-    read-requires
-    enum-known-answer
-    enum-known-answer-2
-    array-read-finished
-    sub-finished
-    finished-requires
-    returns
-    returns-2
-    arity-requires
-    refused-requires
-    returns-3
-    add-second
-    is-or-requires
-    array-read-saved
-    cast-saved
-    add-saved
-    array-write-ors
-    mul-value
-    array-read-value
-    mul-value-2
-    array-read-value-2
-    value-requires
-    mul-stack
-    array-write-stack
-    add-count
-    loop-less
-    loop-again
-    refused-requires-2
-    returns-4
-    array-read-finished-2
-    sub-finished-2
-    finished-requires-2
-    returns-5)
+    (tie.spec Inv-loop μ-loop loop-holds (λ c κs. search needs) (λ c. search needs) (λ c. search needs) (λ c. search needs) sub-finished
+    (λ c κs. search needs) returns returns-2 (λ c κs. search needs) (λ c κs. search needs) returns-3 (λ c. search needs)
+    (λ c κs. search needs) (λ c. search needs) (λ c. search needs) add-saved (λ c. search needs) (λ c. search needs) (λ c. search needs)
+    (λ c. search needs) (λ c. search needs) value-requires (λ c. search needs) (λ c. search needs) (λ c. search needs) (λ c. search needs)
+    loop-again (λ c κs. search needs) returns-4 (λ c. search needs) sub-finished-2 (λ c κs. search needs) returns-5)
