@@ -23,9 +23,8 @@ use Rattle.bits.specs.Word.{places}
 use Rattle.bits.proofs.Ascending.{ascending-keep, below-keep}
 use Rattle.bits.proofs.Mask.{within-le}
 use Rattle.bits.proofs.Range.{mem-head, mem-tail, mem-keep}
-use Rattle.bits.proofs.Sum.{union-mem}
 use Rattle.bits.proofs.Truth.{and-true-r}
-use Rattle.bits.proofs.Union.{union-lt}
+use Rattle.bits.proofs.Union.{union-mem, union-lt}
 use Rattle.bits.proofs.Word.{ascending-places, below-places}
 use Rattle.rules.specs.Cleanup.{covered, stripped, cleanup}
 use Rattle.rules.specs.Form.{cube, orChain, rawCost, literals}

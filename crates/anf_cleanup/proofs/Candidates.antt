@@ -24,7 +24,7 @@ use Rattle.bits.proofs.Ascending.{below-mem}
 use Rattle.bits.proofs.Bit.{lt-pow, nonzero-bit}
 use Rattle.bits.proofs.Mask.{within-le, within-pow, within-refl, within-trans, ones-pow}
 use Rattle.bits.proofs.Range.{length-keep, mem-head, mem-keep}
-use Rattle.bits.proofs.Sum.{union-mem}
+use Rattle.bits.proofs.Union.{union-mem}
 use Rattle.bits.proofs.Total.{total-const, total-two}
 use Rattle.bits.proofs.Truth.{and-intro, and-true-l, and-true-r}
 use Rattle.bits.proofs.Word.{below-places}

@@ -5,7 +5,7 @@
 --   joinedWord k w, joined-six  == the k lowest flags in turn; all six make `inWord`
 --   inWord-form                 == the low bits of such a word are a form's coefficients
 --   holds-inside                == words so transformed hold the XOR over subsets for the six lowest flags
-use mathlib.Core.Bool.{Bool, true, false, not, _&&_, and-comm}
+use mathlib.Core.Bool.{Bool, true, false, _&&_, and-comm}
 use mathlib.Core.List.{List}
 use mathlib.Core.Path.{_≡_, refl, sym, ap, _∙_}
 use Prim.Native.Nat.{ℕ, zero, suc, _+_, _-_, _*_, _/_, _%_, _^_, _≤_, _<_}
@@ -15,13 +15,12 @@ use lib.Bits.{bitAnd, bitXor, xor-lt}
 use lib.Dec.{ltb}
 use lib.ListN.{length, getD}
 use lib.Pow.{pow-pos, pow-mono}
-use borrow.Author.Tests.{ltb-true, ltb-false, lt-ltb, not-true}
+use borrow.Author.Tests.{ltb-true, ltb-false}
 use Rattle.bits.specs.Bit.{_⊕_, bit}
-use Rattle.bits.specs.Range.{from, upto, all}
+use Rattle.bits.specs.Range.{from, all}
 use Rattle.bits.specs.Word.{word}
-use Rattle.bits.proofs.Truth.{xor-same}
+use Rattle.bits.proofs.Cells.{agree, cells-same}
 use Rattle.bits.proofs.Bit.{bit-and, bit-xor, bit-high, bit-mod}
-use Rattle.bits.proofs.Range.{mem-upto, all-mem}
 use Rattle.bits.proofs.Shift.{bit-shl-in, bit-shl-in-low}
 use Rattle.bits.proofs.Word.{word-ext, bit-word-keep}
 use Rattle.rules.specs.Coefficient.{coefficient, packed}
@@ -43,24 +42,12 @@ joinedWord zero w = w
 joinedWord (suc k) w = joinWord k (joinedWord k w)
 
 -- one test of all masks: bit i is set exactly where the shift by 2 ^ k takes i to a place with flag k
-cell : ℕ → ℕ → Bool
-unfolding bit
-cell k i = not (bit (lacking k) i ⊕ bit (2 ^ k + i) k)
-
-row : ℕ → Bool
-unfolding all from cell
-row k = all (cell k) (upto 64)
-
-cells : all row (upto 6) ≡ true
-unfolding all from row
-cells = refl
+masks-right : agree (λ k i. bit (lacking k) i) (λ k i. bit (2 ^ k + i) k) 6 64 ≡ true
+unfolding all from bit
+masks-right = refl
 
 bit-lacking : (k i : ℕ) → k < 6 → i < 64 → bit (lacking k) i ≡ bit (2 ^ k + i) k
-unfolding cell row
-bit-lacking k i h l =
-    let r : row k ≡ true = all-mem row (upto 6) k cells (mem-upto 6 k ∙ lt-ltb k 6 h) in
-    let c : cell k i ≡ true = all-mem (cell k) (upto 64) i r (mem-upto 64 i ∙ lt-ltb i 64 l) in
-    xor-same (bit (lacking k) i) (bit (2 ^ k + i) k) (not-true _ c)
+bit-lacking = cells-same (λ k i. bit (lacking k) i) (λ k i. bit (2 ^ k + i) k) 6 64 masks-right
 
 pub bit-join : (k w i : ℕ) → k < 6 → i < 64 → bit (joinWord k w) i ≡ along k (bit w) i
 unfolding along

@@ -21,3 +21,4 @@ pub mod Union
 pub mod Disjoint
 pub mod Chosen
 pub mod Tabulated
+pub mod Cells

@@ -7,22 +7,18 @@
 --   sum-append, sum-unit, sum-op               == the sum over ++, of units, of two sums' terms
 --   sum-swap, sum-split                        == a sum of sums the other way round; the chosen and the others
 --   parity-and, parity-keep                    == a common factor; a choice as a factor
---   total-mono, total-keep-le                  == order and choices of totals
---   bit-union, union-within, union-mem         == the bits of a union; it is within m where all its members are; its members are within it
-use mathlib.Core.Bool.{Bool, true, false, not, _&&_, _||_, or-assoc}
+use mathlib.Core.Bool.{Bool, true, false, not, _&&_, or-assoc}
 use mathlib.Core.List.{List, [], _∷_, _++_, map}
 use mathlib.Core.Path.{_≡_, refl, sym, ap, ap₂, _∙_}
-use Prim.Native.Nat.{ℕ, _+_, _≤_}
-use native.Mathlib.Nat.{zero-add, add-assoc, add-comm, add-le-add, le-refl}
-use native.Mathlib.Omega.{arith}
+use Prim.Native.Nat.{ℕ, _+_}
+use native.Mathlib.Nat.{zero-add, add-assoc, add-comm}
 use lib.Bits.{bitOr, or-comm}
-use Rattle.bits.specs.Bit.{_⊕_, bit, within}
-use Rattle.bits.specs.Range.{keep, all, any, mem}
-use Rattle.bits.specs.Sum.{sum, total, parity, union}
+use Rattle.bits.specs.Bit.{_⊕_, bit}
+use Rattle.bits.specs.Range.{keep, mem}
+use Rattle.bits.specs.Sum.{sum, parity}
 use Rattle.bits.proofs.Truth.{xor-assoc, xor-comm}
-use Rattle.bits.proofs.Bit.{bit-or, bit-zero, bits-eq}
-use Rattle.bits.proofs.Mask.{within-zero, within-or, within-refl}
-use Rattle.bits.proofs.Range.{mem-head, mem-tail, all-mem}
+use Rattle.bits.proofs.Bit.{bit-or, bits-eq}
+use Rattle.bits.proofs.Range.{mem-head, mem-tail}
 
 pub record Commutes {B : Type 0} (op : B → B → B) (e : B) : Type 0 where
   pub assoc : (a b c : B) → op (op a b) c ≡ op a (op b c)
@@ -122,24 +118,3 @@ module _ {A : Type 0} where
       go : (b y : Bool) → only false b y ≡ (b && y)
       go true y = refl
       go false y = refl
-
-  pub total-mono : (f g : A → ℕ) (l : List A) → ((x : A) → f x ≤ g x) → total f l ≤ total g l
-  unfolding sum
-  total-mono f g [] h = le-refl 0
-  total-mono f g (x ∷ l) h = add-le-add (h x) (total-mono f g l h)
-
-  pub total-keep-le : (f : A → ℕ) (p : A → Bool) (l : List A) → total f (keep p l) ≤ total f l
-  total-keep-le f p l = let h = sum-split plus-laws f p l in omega arith
-
-pub bit-union : (l : List ℕ) (i : ℕ) → bit (union l) i ≡ any (λ m. bit m i) l
-unfolding sum any
-bit-union [] i = bit-zero i
-bit-union (m ∷ l) i = bit-or m (union l) i ∙ ap (λ (b : Bool). bit m i || b) (bit-union l i)
-
-pub union-within : (l : List ℕ) (m : ℕ) → within (union l) m ≡ all (λ x. within x m) l
-unfolding sum all
-union-within [] m = within-zero m
-union-within (x ∷ l) m = within-or x (union l) m ∙ ap (λ (b : Bool). within x m && b) (union-within l m)
-
-pub union-mem : (l : List ℕ) (m : ℕ) → mem m l ≡ true → within m (union l) ≡ true
-union-mem l m h = all-mem (λ x. within x (union l)) l m (sym (union-within l (union l)) ∙ within-refl (union l)) h

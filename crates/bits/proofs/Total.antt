@@ -1,13 +1,14 @@
--- Laws of totals, the sums of numbers: bounds by members, and one more for each element. They rest on the laws of sums and of choices
+-- Laws of totals, the sums of numbers: their order, bounds by members, and one more for each element. They rest on the laws of sums and of choices
 -- (Sum, Range). Assumes nothing.
+--   total-mono, total-keep-le       == order, and a choice of the elements
 --   total-suc, total-const          == one more for each element; the same for each
 --   total-mem, total-two            == one member's part, and that of two different members
-use mathlib.Core.Bool.{true, not, false≢true}
+use mathlib.Core.Bool.{Bool, true, not, false≢true}
 use mathlib.Core.List.{List, [], _∷_}
 use mathlib.Core.Logic.{inl, inr}
 use mathlib.Core.Path.{_≡_, refl, sym, ap, _∙_}
 use Prim.Native.Nat.{ℕ, suc, _+_, _*_, _≤_}
-use native.Mathlib.Nat.{zero-mul, suc-mul}
+use native.Mathlib.Nat.{add-le-add, zero-mul, suc-mul, le-refl}
 use native.Mathlib.Omega.{arith}
 use lib.Dec.{eqb}
 use lib.ListN.{length}
@@ -17,6 +18,15 @@ use Rattle.bits.specs.Sum.{sum, total}
 use Rattle.bits.proofs.Truth.{and-intro}
 use Rattle.bits.proofs.Range.{mem-cons, mem-keep}
 use Rattle.bits.proofs.Sum.{plus-laws, sum-split}
+
+module _ {A : Type 0} where
+  pub total-mono : (f g : A → ℕ) (l : List A) → ((x : A) → f x ≤ g x) → total f l ≤ total g l
+  unfolding sum
+  total-mono f g [] h = le-refl 0
+  total-mono f g (x ∷ l) h = add-le-add (h x) (total-mono f g l h)
+
+  pub total-keep-le : (f : A → ℕ) (p : A → Bool) (l : List A) → total f (keep p l) ≤ total f l
+  total-keep-le f p l = let h = sum-split plus-laws f p l in omega arith
 
 module _ {A : Type 0} (f : A → ℕ) where
   pub total-suc : (l : List A) → total (λ x. suc (f x)) l ≡ total f l + length l

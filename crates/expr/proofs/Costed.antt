@@ -20,7 +20,7 @@ use mir.Val.{boolByte}
 use borrow.Author.Tests.{eqb-true}
 use Rattle.bits.specs.Bit.{digit}
 use Rattle.bits.specs.Sum.{sum, total}
-use Rattle.bits.proofs.Sum.{total-mono}
+use Rattle.bits.proofs.Total.{total-mono}
 use Rattle.rules.specs.Limits.{recordLimit, badEnd}
 use Rattle.rules.specs.Machine.{made}
 use Rattle.rules.specs.Outcome.{Outcome, gives, refuse, _then_}

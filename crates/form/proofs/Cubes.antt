@@ -28,7 +28,7 @@ use Rattle.bits.proofs.Ascending.{below-mem}
 use Rattle.bits.proofs.Disjoint.{within-not, disjoint-sub}
 use Rattle.bits.proofs.Lowest.{trailing-lt, clear-above, ones-clear}
 use Rattle.bits.proofs.Sets.{mem-bit, any-bit}
-use Rattle.bits.proofs.Sum.{union-mem}
+use Rattle.bits.proofs.Union.{union-mem}
 use Rattle.bits.proofs.Word.{below-places, ones-places, places-lowest}
 use Rattle.rules.specs.Cleanup.{meets, covered, stripped, isCube}
 use Rattle.rules.specs.Monomial.{monomials}

@@ -26,7 +26,7 @@ use Rattle.bits.proofs.Bit.{digit-bit, mod-pow-suc}
 use Rattle.bits.proofs.Range.{all-mem, any-ext, mem-upto}
 use Rattle.bits.proofs.Ascending.{below-mem, below-keep}
 use Rattle.bits.proofs.Sets.{any-bit, mem-bit}
-use Rattle.bits.proofs.Sum.{bit-union}
+use Rattle.bits.proofs.Union.{bit-union}
 use Rattle.bits.proofs.Union.{union-lt, bit-union-singles}
 use Rattle.bits.proofs.Word.{below-places}
 use Rattle.rules.specs.Cleanup.{singles}

@@ -23,7 +23,8 @@ use Rattle.bits.proofs.Fixed.{fixed-ind}
 use Rattle.bits.proofs.Mask.{within-le, within-refl, within-antisym, within-or, within-or-r, sub-disjoint}
 use Rattle.bits.proofs.Range.{any-map, any-ext, mem-all, mem-keep}
 use Rattle.bits.proofs.Sets.{mem-bit}
-use Rattle.bits.proofs.Sum.{or-laws, sum-map, sum-ext, sum-ext-mem, sum-append, sum-op, sum-split, bit-union, union-within, union-mem}
+use Rattle.bits.proofs.Sum.{or-laws, sum-map, sum-ext, sum-ext-mem, sum-append, sum-op, sum-split}
+use Rattle.bits.proofs.Union.{bit-union, union-within, union-mem}
 use Rattle.bits.proofs.Truth.{and-intro, and-true-l, and-true-r}
 use Rattle.rules.specs.Cleanup.{family, atop, singles, covered, stripped, withRest, turn, cleanup}
 use Rattle.rules.specs.Form.{flags, chain, cube, orChain, folded, rawForm, literals}

@@ -25,7 +25,8 @@ use Rattle.bits.proofs.Mask.{within-pow, ones-sub, ones-pos, ones-pow}
 use Rattle.bits.proofs.Range.{mem-keep, mem-head}
 use Rattle.bits.proofs.Ascending.{ascending-keep, below-mem, mem-below, keep-upto-of}
 use Rattle.bits.proofs.Fixed.{fixed-keeps}
-use Rattle.bits.proofs.Sum.{plus-laws, sum-split, total-keep-le}
+use Rattle.bits.proofs.Sum.{plus-laws, sum-split}
+use Rattle.bits.proofs.Total.{total-keep-le}
 use Rattle.bits.proofs.Total.{total-mem, total-two}
 use Rattle.rules.specs.Cleanup.{family, atop, singles, covered, stripped, withRest, turn, cleanup}
 use Rattle.rules.specs.Form.{cube, orChain, rawCost, termCost, literals}
