@@ -1,9 +1,13 @@
 -- The words in which one coefficient more is 1.
---   raised ws m      == ws with coefficient m made 1
+--   Raised ws m vs   == vs are as many words as ws, with coefficient m made 1 and every other as it was
+use mathlib.Core.Bool.{_||_}
 use mathlib.Core.List.{List}
-use Prim.Native.Nat.{ℕ, _/_, _%_, _^_}
-use lib.Bits.{bitOr}
-use lib.ListN.{getD, set}
+use mathlib.Core.Path.{_≡_}
+use Prim.Native.Nat.{ℕ}
+use lib.Dec.{eqb}
+use lib.ListN.{length}
+use Rattle.rules.specs.Coefficient.{packed}
 
-unfoldable pub raised : List ℕ → ℕ → List ℕ
-raised ws m = set ws (m / 64) (bitOr (getD ws (m / 64) 0) (2 ^ (m % 64)))
+pub record Raised (ws : List ℕ) (m : ℕ) (vs : List ℕ) : Type 0 where
+  pub count : length vs ≡ length ws
+  pub coefficients : (k : ℕ) → packed vs k ≡ (eqb k m || packed ws k)

@@ -5,7 +5,7 @@ ghost use Prim.Native.Nat.{_/_, _%_, _<_, _≤_, _^_};
 ghost use lib.ListN.{length};
 ghost use Rattle.bits.specs.Bit.{digit};
 ghost use Rattle.rules.specs.Coefficient.{wordCount, packed, stray};
-ghost use Rattle.packed_anf.specs.Raised.{raised};
+ghost use Rattle.packed_anf.specs.Raised.{Raised};
 
 // How many settings that many flags have.
 pub fn setting_count(flags: usize) -> usize
@@ -53,7 +53,7 @@ pub fn get(words: &[u64], m: usize) -> u64
 // Coefficient m becomes 1.
 pub fn set(words: &mut [u64], m: usize)
     requires { ⌜ m / 64 < length (now words) ⌝ }
-    ensures { λ _. ⌜ now (words .exit) ≡ raised (now (words .entry)) m ⌝ }
+    ensures { λ _. ⌜ Raised (now (words .entry)) m (now (words .exit)) ⌝ }
 {
     words[m / 64] = words[m / 64] | (1 << (m % 64));
 }

@@ -1,13 +1,14 @@
--- `packed_anf::set` meets its contract: the one that it puts in stands inside the word, so nothing of it is lost.
+-- `packed_anf::set` meets its contract: the one that it puts in stands inside the word, so nothing of it is lost, and the store is that of Raised.
 -- Assumes nothing.
-use mathlib.Core.Path.{ap}
+use mathlib.Core.Path.{sym, subst}
 use Prim.Native.Nat.{ℕ, _/_, _%_}
 use native.Mathlib.Omega.{arith}
 use borrow.Author.Needs.{needs}
 use lib.Bits.{bitOr}
 use lib.ListN.{getD, set}
 use Rattle.bits.proofs.Shift.{one-shl}
-use Rattle.packed_anf.specs.Raised.{raised}
+use Rattle.packed_anf.specs.Raised.{Raised}
+use Rattle.packed_anf.proofs.Raised.{raised}
 use Rattle.packed_anf.proofs.set.Statement.{statement}
 use Rattle.packed_anf.proofs.set.Tie as tie
 
@@ -30,11 +31,10 @@ same-length : tie.Need-same-length
 same-length c = search needs
 
 returns : tie.Need-returns
-unfolding raised
 returns c =
     let m = c .before .args .m in
     let ws = c .before .args .words .now in
-    ap (λ (x : ℕ). set ws (m / 64) (bitOr (getD ws (m / 64) 0) x)) (one-shl 64 (m % 64) (omega arith))
+    subst (λ (x : ℕ). Raised ws m (set ws (m / 64) (bitOr (getD ws (m / 64) 0) x))) (sym (one-shl 64 (m % 64) (omega arith))) (raised ws m (c .before .pre))
 
 pub set-spec : {M : Type 1} → statement M
 set-spec =
