@@ -1,6 +1,5 @@
 -- Bounds for forms in one word, so of at most six flags: their flags are below 64, and every cost is small.
 -- They rest on the cleanup's cost (rules, Size) and on the costs of parts (rules, Cost). Assumes nothing.
---   digit-le                               == a constant is 1 at most
 --   union-some, flags-below                == of two masks one has a flag; the flags that occur in a form are below 64
 --   raw-limit, cleanup-limit, inner-limit  == raw cost, and the cost of a cleaned form and of a cleaned inner form
 --   covered-limit                          == the literals of the monomials that contain a cube
@@ -23,6 +22,7 @@ use Rattle.bits.specs.Word.{places}
 use Rattle.bits.proofs.Ascending.{ascending-keep, below-keep}
 use Rattle.bits.proofs.Mask.{within-le}
 use Rattle.bits.proofs.Range.{mem-head, mem-tail, mem-keep}
+use Rattle.bits.proofs.Total.{total-keep-le}
 use Rattle.bits.proofs.Truth.{and-true-r}
 use Rattle.bits.proofs.Union.{union-mem, union-lt}
 use Rattle.bits.proofs.Word.{ascending-places, below-places}
@@ -32,12 +32,7 @@ use Rattle.rules.specs.Monomial.{monomials}
 use Rattle.rules.specs.Tree.{cost}
 use Rattle.rules.proofs.Cost.{cost-cube, cost-orChain, cost-orChain-few, raw-literals, termCost-suc}
 use Rattle.rules.proofs.Covered.{ascending-stripped}
-use Rattle.rules.proofs.Literals.{literals-keep}
 use Rattle.rules.proofs.Size.{cost-cleanup, rawCost-limit}
-
-pub digit-le : (b : Bool) → digit b ≤ 1
-digit-le true = omega arith
-digit-le false = omega arith
 
 pub union-some : (k : List ℕ) → Ascending k → 2 ≤ length k → 0 < union k
 union-some [] s p = absurd (omega arith)
@@ -58,8 +53,8 @@ module _ (w : ℕ) where
   covered-limit c =
       omega (
         arith,
-        literals-keep (λ m. within c m) (monomials (places 64 w)),
-        literals-keep (λ m. ltb 0 m) (places 64 w),
+        total-keep-le ones (λ m. within c m) (monomials (places 64 w)),
+        total-keep-le ones (λ m. ltb 0 m) (places 64 w),
         go (places 64 w) (ascending-places 64 w) raw-limit,
       )
     where

@@ -22,6 +22,7 @@ use lib.ListN.{length, length-map}
 use borrow.Author.Tests.{lt-ltb, le-ltb}
 use Rattle.bits.specs.Bit.{digit}
 use Rattle.bits.specs.Range.{Ascending}
+use Rattle.bits.proofs.Bit.{digit-le}
 use Rattle.bits.proofs.Mask.{zero-within, ones-pos}
 use Rattle.rules.specs.Cleanup.{cleanup, covered, stripped, isCube, cubeSaving, better}
 use Rattle.rules.specs.Cleanup as paper
@@ -37,7 +38,7 @@ use Rattle.anf_cleanup.specs.Plan.{bestOf, tried, Right, gross, least, K
 use Rattle.anf_cleanup.specs.declared.Best.{Best}
 use Rattle.anf_cleanup.specs.declared.Choice.{Choice}
 use Rattle.anf_cleanup.specs.declared.Choice.the-variants.{Open}
-use Rattle.anf_cleanup.proofs.Bounds.{digit-le, union-some}
+use Rattle.anf_cleanup.proofs.Bounds.{union-some}
 use Rattle.anf_cleanup.proofs.Candidates.{isCube-many}
 use Rattle.anf_cleanup.proofs.Plans.{right-open}
 

@@ -24,7 +24,8 @@ use Rattle.bits.proofs.Bit.{digit-bit}
 use Rattle.bits.proofs.Mask.{ones-pos}
 use Rattle.bits.proofs.Places.{ones-and, length-total, places-zero, mem-zero}
 use Rattle.bits.proofs.Range.{all-mem, mem-upto}
-use Rattle.bits.proofs.Sum.{plus-laws, sum-ext, sum-ext-mem, sum-swap, total-mul}
+use Rattle.bits.proofs.Sum.{plus-laws, sum-ext, sum-ext-mem, sum-swap}
+use Rattle.bits.proofs.Total.{total-mul}
 use Rattle.bits.proofs.Ascending.{below-mem}
 use Rattle.bits.proofs.Word.{ascending-places, below-places, ones-places}
 use Rattle.rules.specs.Form.{literals, rawCost}

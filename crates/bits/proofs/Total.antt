@@ -1,6 +1,7 @@
 -- Laws of totals, the sums of numbers: their order, bounds by members, and one more for each element. They rest on the laws of sums and of choices
 -- (Sum, Range). Assumes nothing.
 --   total-mono, total-keep-le       == order, and a choice of the elements
+--   total-mul                       == a multiple
 --   total-suc, total-const          == one more for each element; the same for each
 --   total-mem, total-two            == one member's part, and that of two different members
 use mathlib.Core.Bool.{Bool, true, not, false≢true}
@@ -8,7 +9,7 @@ use mathlib.Core.List.{List, [], _∷_}
 use mathlib.Core.Logic.{inl, inr}
 use mathlib.Core.Path.{_≡_, refl, sym, ap, _∙_}
 use Prim.Native.Nat.{ℕ, suc, _+_, _*_, _≤_}
-use native.Mathlib.Nat.{add-le-add, zero-mul, suc-mul, le-refl}
+use native.Mathlib.Nat.{add-le-add, zero-mul, mul-zero, suc-mul, mul-add, le-refl}
 use native.Mathlib.Omega.{arith}
 use lib.Dec.{eqb}
 use lib.ListN.{length}
@@ -24,6 +25,11 @@ module _ {A : Type 0} where
   unfolding sum
   total-mono f g [] h = le-refl 0
   total-mono f g (x ∷ l) h = add-le-add (h x) (total-mono f g l h)
+
+  pub total-mul : (c : ℕ) (f : A → ℕ) (l : List A) → total (λ x. c * f x) l ≡ c * total f l
+  unfolding sum
+  total-mul c f [] = sym (mul-zero c)
+  total-mul c f (x ∷ l) = ap (λ (n : ℕ). c * f x + n) (total-mul c f l) ∙ sym (mul-add c (f x) (total f l))
 
   pub total-keep-le : (f : A → ℕ) (p : A → Bool) (l : List A) → total f (keep p l) ≤ total f l
   total-keep-le f p l = let h = sum-split plus-laws f p l in omega arith

@@ -1,6 +1,5 @@
 -- Laws of evaluation's stack as one number: what a record makes of it, and what a walk over it knows. They rest on `packed` of the definitions and
 -- on the laws of Stack and Walk. Assumes nothing.
---   digit-le                         == a truth value as a number is at most 1
 --   packed-some                      == the number of a stack is never 0
 --   repacked-leaf, repacked-unary, repacked-binary
 --                                    == the number that a record leaves, by what it makes of the number before it
@@ -20,7 +19,7 @@ use lib.Dec.{eqb, ltb}
 use lib.ListN.{length}
 use borrow.Author.Tests.{ltb-true, ltb-false, ne-eqb}
 use Rattle.bits.specs.Bit.{_⊕_, bit, digit}
-use Rattle.bits.proofs.Bit.{bit-first, digit-bit}
+use Rattle.bits.proofs.Bit.{bit-first, digit-bit, digit-le}
 use Rattle.rules.specs.Limits.{recordLimit, fewOperands}
 use Rattle.rules.specs.Machine.{push, binary, unary, made}
 use Rattle.rules.specs.Outcome.{Outcome, gives, refuses, _then_}
@@ -55,10 +54,6 @@ xor-table true true = refl
 xor-table true false = refl
 xor-table false true = refl
 xor-table false false = refl
-
-pub digit-le : (b : Bool) → digit b ≤ 1
-digit-le true = omega arith
-digit-le false = omega arith
 
 digit-not : (b : Bool) → 1 - digit b ≡ digit (not b)
 digit-not true = refl

@@ -20,8 +20,9 @@ use Rattle.bits.specs.Bit.{digit, within}
 use Rattle.bits.specs.Range.{keep, any, mem, Ascending}
 use Rattle.bits.specs.Sum.{sum, union}
 use Rattle.bits.proofs.Ascending.{ascending-keep}
+use Rattle.bits.proofs.Bit.{digit-le}
 use Rattle.bits.proofs.Fixed.{fixed-ind}
-use Rattle.bits.proofs.Mask.{ones-pos, ones-sub, zero-within}
+use Rattle.bits.proofs.Mask.{ones-pos, ones-sub, ones-or, zero-within}
 use Rattle.bits.proofs.Range.{mem-head, mem-keep}
 use Rattle.bits.proofs.Truth.{and-true-l, and-true-r}
 use Rattle.rules.specs.Cleanup.{family, atop, singles, covered, stripped, withRest, turn, cleanup}
@@ -31,15 +32,11 @@ use Rattle.rules.specs.Tree.{Tree, AN, XO, NO, cost}
 use Rattle.rules.proofs.Cost.{cost-pos, cost-cube, cost-orChain, cost-rawForm, termCost-suc, raw-literals}
 use Rattle.rules.proofs.Covered.{ascending-stripped}
 use Rattle.rules.proofs.Family.{mem-family}
-use Rattle.rules.proofs.Floor.{floor, floor-le, floor-orChain, floor-cleanup, ones-or}
+use Rattle.rules.proofs.Floor.{floor, floor-le, floor-orChain, floor-cleanup}
 use Rattle.rules.proofs.Literals.{literals-uncovered, literals-without}
 use Rattle.rules.proofs.Mentioned.{or-within, union-monomials, union-family, union-without, union-covered}
 use Rattle.rules.proofs.Recursion.{cleanup-turn}
 use Rattle.rules.proofs.Turn.{Partial, Common, turn-ind}
-
-digit-le : (b : Bool) → digit b ≤ 1
-digit-le true = omega arith
-digit-le false = omega arith
 
 floor-ge : (k : ℕ) → k ≤ floor k
 unfolding floor

@@ -1,6 +1,6 @@
 -- Total literals of the parts of a form: they fall at every call of the cleanup, for whatever choice its rules allow.
 -- It rests on the parts of a form (Covered) and the laws of totals (bits, Sum and Total). Assumes nothing.
---   literals-split                                      == of a choice and the rest
+--   literals-split, literals-monomials                  == of a choice and the rest; of the monomials alone
 --   literals-covered, literals-cube                     == what a cube covers, and the form along a cube
 --   literals-stripped, literals-uncovered, literals-without == the stripped form and both remainders have fewer
 use mathlib.Core.Bool.{Bool, true, not}
@@ -10,22 +10,40 @@ use Prim.Native.Nat.{ℕ, _+_, _-_, _*_, _≤_, _<_}
 use native.Mathlib.Nat.{mul-le-mul}
 use native.Mathlib.Omega.{arith}
 use lib.Count.{ones}
+use lib.Dec.{ltb}
 use lib.ListN.{length}
-use borrow.Author.Tests.{lt-ltb}
+use borrow.Author.Tests.{lt-ltb, ltb-false, not-true}
 use Rattle.bits.specs.Bit.{within}
 use Rattle.bits.specs.Range.{keep, mem}
-use Rattle.bits.proofs.Truth.{and-intro}
+use Rattle.bits.proofs.Truth.{and-intro, and-true-r}
 use Rattle.bits.proofs.Mask.{within-refl, ones-sub, ones-pos}
 use Rattle.bits.proofs.Range.{mem-keep}
-use Rattle.bits.proofs.Sum.{plus-laws, sum-map, sum-ext-mem, sum-op, sum-split}
+use Rattle.bits.proofs.Sum.{plus-laws, sum-map, sum-ext-mem, sum-op, sum-unit, sum-split}
 use Rattle.bits.proofs.Total.{total-const, total-mem}
 use Rattle.rules.specs.Cleanup.{family, covered, stripped}
 use Rattle.rules.specs.Form.{literals}
+use Rattle.rules.specs.Monomial.{monomials}
 use Rattle.rules.proofs.Covered.{covered-keep, covered-within}
 use Rattle.rules.proofs.Family.{mem-family}
 
 pub literals-split : (p : ℕ → Bool) (l : List ℕ) → literals l ≡ literals (keep p l) + literals (keep (λ m. not (p m)) l)
 literals-split p l = sum-split plus-laws ones p l
+
+pub literals-monomials : (l : List ℕ) → literals (monomials l) ≡ literals l
+unfolding ones
+literals-monomials l = omega (arith, literals-split (λ m. ltb 0 m) l, none)
+  where
+    zeros : List ℕ
+    zeros = keep (λ m. not (ltb 0 m)) l
+
+    zero-ones : (m : ℕ) → mem m zeros ≡ true → ones m ≡ 0
+    zero-ones m e =
+        let z = ltb-false 0 m (not-true (ltb 0 m) (and-true-r (mem m l) (not (ltb 0 m)) (sym (mem-keep (λ x. not (ltb 0 x)) l m) ∙ e))) in
+        let q : m ≡ 0 = omega arith in
+        ap ones q
+
+    none : literals zeros ≡ 0
+    none = sum-ext-mem _+_ 0 ones (λ m. 0) zeros zero-ones ∙ sum-unit plus-laws zeros
 
 module _ (c : ℕ) (l : List ℕ) where
   pub literals-covered : literals (covered c l) ≡ literals (stripped c l) + length (covered c l) * ones c

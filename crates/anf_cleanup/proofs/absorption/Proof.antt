@@ -4,12 +4,13 @@ use mathlib.Core.Path.{_≡_, refl, _∙_}
 use Prim.Native.Nat.{_+_, _*_}
 use native.Mathlib.Omega.{arith}
 use borrow.Author.Needs.{needs}
+use Rattle.bits.proofs.Bit.{digit-le}
 use Rattle.rules.specs.Monomial.{constant}
 use Rattle.rules.specs.Tree.{cost}
 use Rattle.form.specs.Masks.{masks}
 use Rattle.anf_cleanup.specs.Plan.{built}
 use Rattle.anf_cleanup.specs.declared.Choice.the-variants.{Absorption}
-use Rattle.anf_cleanup.proofs.Bounds.{digit-le, pair-bounds, pair-limit}
+use Rattle.anf_cleanup.proofs.Bounds.{pair-bounds, pair-limit}
 use Rattle.anf_cleanup.proofs.Plans.{improved-none, improved-one, improved-kept, cost-absorption}
 use Rattle.anf_cleanup.proofs.Rules.{absorption-none, absorption-apart, absorption-some}
 use Rattle.anf_cleanup.proofs.absorption.Statement.{statement}

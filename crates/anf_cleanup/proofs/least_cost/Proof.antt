@@ -4,13 +4,14 @@ use mathlib.Core.Path.{ap}
 use Prim.Native.Nat.{ℕ}
 use native.Mathlib.Omega.{arith}
 use borrow.Author.Needs.{needs}
+use Rattle.bits.proofs.Bit.{digit-le}
 use Rattle.bits.proofs.Word.{ascending-places}
 use Rattle.rules.specs.Form.{orChain}
 use Rattle.rules.specs.Monomial.{constant}
 use Rattle.rules.specs.Tree.{cost}
 use Rattle.form.specs.Masks.{masks}
 use Rattle.anf_cleanup.specs.Plan.{least}
-use Rattle.anf_cleanup.proofs.Bounds.{digit-le, union-some, flags-below, chain-limit}
+use Rattle.anf_cleanup.proofs.Bounds.{union-some, flags-below, chain-limit}
 use Rattle.anf_cleanup.proofs.least_cost.Statement.{statement}
 use Rattle.anf_cleanup.proofs.least_cost.Tie as tie
 

@@ -4,13 +4,14 @@ use mathlib.Core.Path.{refl, sym, _∙_}
 use Prim.Native.Nat.{ℕ}
 use native.Mathlib.Omega.{arith}
 use borrow.Author.Needs.{needs}
+use Rattle.bits.proofs.Bit.{digit-le}
 use Rattle.rules.specs.Form.{rawForm}
 use Rattle.rules.specs.Monomial.{constant}
 use Rattle.form.specs.Masks.{masks}
 use Rattle.form.proofs.Flags.{singles-lt}
 use Rattle.anf_cleanup.specs.Plan.{Planned}
 use Rattle.anf_cleanup.specs.declared.Choice.the-variants.{Constant, Family, Raw}
-use Rattle.anf_cleanup.proofs.Bounds.{digit-le, chain-limit}
+use Rattle.anf_cleanup.proofs.Bounds.{chain-limit}
 use Rattle.anf_cleanup.proofs.Rules.{cleanup-constant, cleanup-family, family-singles}
 use Rattle.anf_cleanup.proofs.Plans.{planned-chosen, planned-contest, planned-single, cost-constant, cost-family, cost-raw}
 use Rattle.anf_cleanup.proofs.cleanup.Reads as reads

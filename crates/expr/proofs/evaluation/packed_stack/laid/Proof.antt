@@ -1,7 +1,7 @@
 -- `expr::evaluation::packed_stack::laid` meets its contract: a truth value as a number is its digit. Assumes nothing.
 use native.Mathlib.Omega.{arith}
 use borrow.Author.Needs.{needs}
-use Rattle.expr.proofs.Packed.{digit-le}
+use Rattle.bits.proofs.Bit.{digit-le}
 use Rattle.expr.proofs.Values.{byte-digit}
 use Rattle.expr.proofs.evaluation.packed_stack.laid.Statement.{statement}
 use Rattle.expr.proofs.evaluation.packed_stack.laid.Tie as tie
