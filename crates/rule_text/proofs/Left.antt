@@ -34,8 +34,8 @@ use Rattle.expr.specs.declared.Reading.{Reading}
 use Rattle.expr.proofs.Reader.{Read, read-end, read-refused}
 use Rattle.expr.proofs.Reading.{the-type}
 use Rattle.rule_text.specs.Parts.{gap, kindText, shown}
-use Rattle.rule_text.specs.Put.{Room, Put}
-use Rattle.rule_text.proofs.Put.{put-none, put-append, put-eq, room-eq, room-first, room-next}
+use Rattle.text.specs.Put.{Room, Put}
+use Rattle.text.proofs.Put.{put-none, put-append, put-eq, room-eq, room-first, room-next}
 use Rattle.rule_text.proofs.RecordList.{kinds, each, spaced, write-kinds, records-kinds, flags-kinds}
 
 pub gap-none : (p : ℕ) → p ≡ 0 → gap p ≡ []
@@ -74,23 +74,23 @@ drop-past : (s : List ℕ) (p : ℕ) (x b : List ℕ) → drop p s ≡ x ++ b �
 drop-past s p x b e = sym (drop-drop (length x) p s) ∙ ap (drop (length x)) e ∙ drop-append-seam x b
 
 module _ (n : ℕ) (s : List ℕ) where
-  start-of : (t : Tree) → Below 256 s → made n s ≡ gives t → (at : ℕ) (out : List ℕ) → Left n s (records t) at 0 at out out
+  start-of : (t : Tree) → Below 256 s → made n s ≡ gives t → (at : ℕ) (out : List ℕ) → at ≤ length out → Left n s (records t) at 0 at out out
   unfolding after
-  start-of t small e at out =
+  start-of t small e at out h =
       let w = made-is n s t small e in
       record {
         rest = kinds t;
         bytes = w .bytes ∙ write-kinds t;
         flags = flags-kinds n t (w .flags);
         done = [];
-        put = put-none at out;
+        put = put-none at out h;
         whole = ap (drop 1) (sym (records-kinds t));
       }
 
-  pub left-start : WellFormed n s → Below 256 s → (at : ℕ) (out : List ℕ) → Left n s (shown (made n s)) at 0 at out out
+  pub left-start : WellFormed n s → Below 256 s → (at : ℕ) (out : List ℕ) → at ≤ length out → Left n s (shown (made n s)) at 0 at out out
   unfolding WellFormed
-  left-start m small at out =
-      subst (λ (l : List ℕ). Left n s l at 0 at out out) (sym (ap shown (m .1))) (start-of (m .0) small (m .1) at out)
+  left-start m small at out h =
+      subst (λ (l : List ℕ). Left n s l at 0 at out out) (sym (ap shown (m .1))) (start-of (m .0) small (m .1) at out h)
 
 module _ {n : ℕ} {s text : List ℕ} {at place next : ℕ} {out now : List ℕ} (w : Left n s text at place next out now) where
   -- the next record, and the records after it

@@ -1,11 +1,7 @@
-pub mod Put
-pub mod Decimal
 pub mod RecordList
 pub mod Left
 pub mod KindText
 pub mod Printed
-pub mod Shown
 pub mod Report
 pub mod Compiling
-pub mod Digits
 pub mod Example

@@ -1,69 +1,30 @@
--- What the printing program is to write, by cases: the flag count of a line's digits, input that is no line of a rule, and input that is. It rests on the
--- definitions of rules' Text. Assumes nothing.
---   flags-some                       == so many digits with a flag count n are 2^n, and n is at most 6
---   flags-none                       == a number that is no power of two up to 64 has no flag count
---   flags-most                       == 2^n is at most 64 where n is at most 6
+-- What the printing program is to write, by cases: input that is no line of a rule, and input that is. It rests on the definitions of rules' Text and on
+-- the flag count of a line's digits (text, FlagCount). Assumes nothing.
 --   line-empty, line-long, line-last == no line is empty, and a line ends in a newline
 --   line-digits, line-all            == input that ends in a newline is a line where all before it are digits
 --   printed-other, printed-ragged    == no flag count, or no line: the complaint
 --   printed-rule                     == a line with its flag count: the report
 --   printed-front                    == the first 66 bytes decide
-use mathlib.Core.Bool.{Bool, true, false, not, and-true, and-false}
-use mathlib.Core.List.{List, [], _∷_, map}
+use mathlib.Core.Bool.{Bool, true, false, and-true, and-false}
+use mathlib.Core.List.{List, [], _∷_}
 use mathlib.Core.Option.{Option, none, some}
 use mathlib.Core.Path.{_≡_, refl, sym, ap, _∙_}
-use Prim.Native.Nat.{ℕ, _+_, _-_, _^_, _≤_, _<_}
+use Prim.Native.Nat.{ℕ, _-_, _<_}
 use native.Mathlib.Decide.{decLt}
 use native.Mathlib.Omega.{arith}
 use lib.Dec.{eqb}
 use lib.ListN.{length, getD, take}
-use lib.Pow.{pow-mono}
 use lib.Seq.{take-all, length-take-le}
-use borrow.Author.Tests.{ltb-true, eqb-true, eq-eqb, ne-eqb}
-use Rattle.bits.specs.Range.{from, upto, keep, all, mem}
-use Rattle.bits.proofs.Range.{mem-upto, mem-head, mem-tail, keep-true, keep-false, keep-none}
+use borrow.Author.Tests.{eq-eqb, ne-eqb}
+use Rattle.bits.specs.Range.{all}
 use Rattle.bits.proofs.Truth.{and-true-l}
 use Rattle.rules.specs.Ascii.{ascii}
-use Rattle.rules.specs.Limits.{ruleFlags}
-use Rattle.rules.specs.Text.{firstOf, flagsOf, isLine, printedAs, printed, report}
-use Rattle.rule_text.specs.Parts.{isDigit}
+use Rattle.rules.specs.Text.{flagsOf, isLine, printedAs, printed, report}
+use Rattle.text.specs.Digits.{isDigit, values}
+use Rattle.text.proofs.FlagCount.{flags-none}
 
--- ---- flag counts
-
-module _ (p : ℕ → Bool) where
-  first-more : (x : ℕ) (l : List ℕ) (n : ℕ) → (firstOf (keep p l) ≡ some n → (p n ≡ true) × (mem n l ≡ true)) → (b : Bool) → p x ≡ b
-      → firstOf (keep p (x ∷ l)) ≡ some n → (p n ≡ true) × (mem n (x ∷ l) ≡ true)
-  unfolding firstOf
-  first-more x l n h true q e =
-      let same : _≡_ {A = Option ℕ} (some x) (some n) = sym (ap firstOf (keep-true p x l q)) ∙ e in
-      let is : x ≡ n = cc in
-      (ap p (sym is) ∙ q, ap (λ (i : ℕ). mem i (x ∷ l)) (sym is) ∙ mem-head x l)
-  first-more x l n h false q e = let g = h (sym (ap firstOf (keep-false p x l q)) ∙ e) in (g .0, mem-tail x l n (g .1))
-
-  first-of : (l : List ℕ) (n : ℕ) → firstOf (keep p l) ≡ some n → (p n ≡ true) × (mem n l ≡ true)
-  unfolding firstOf keep
-  first-of [] n e = let z : _≡_ {A = ℕ} 0 1 = cc in absurd (omega arith)
-  first-of (x ∷ l) n e = first-more x l n (first-of l n) (p x) refl e
-
-pub flags-some : (d n : ℕ) → flagsOf d ≡ some n → (d ≡ 2 ^ n) × (n ≤ ruleFlags)
-unfolding flagsOf
-flags-some d n e =
-    let f = first-of (λ i. eqb d (2 ^ i)) (upto (ruleFlags + 1)) n e in
-    (eqb-true d (2 ^ n) (f .0), omega (arith, ltb-true n (ruleFlags + 1) (sym (mem-upto (ruleFlags + 1) n) ∙ f .1)))
-
-module _ (d : ℕ) where
-  pub flags-none : (d ≡ 1 → ⊥) → (d ≡ 2 → ⊥) → (d ≡ 4 → ⊥) → (d ≡ 8 → ⊥) → (d ≡ 16 → ⊥) → (d ≡ 32 → ⊥) → (d ≡ 64 → ⊥) → flagsOf d ≡ none
-  unfolding flagsOf firstOf from all
-  flags-none a b c e f g h =
-      let no : all (λ i. not (eqb d (2 ^ i))) (upto (ruleFlags + 1)) ≡ true =
-      rw (ne-eqb d 1 a, ne-eqb d 2 b, ne-eqb d 4 c, ne-eqb d 8 e, ne-eqb d 16 f, ne-eqb d 32 g, ne-eqb d 64 h) in
-      ap firstOf (keep-none (λ i. eqb d (2 ^ i)) (upto (ruleFlags + 1)) no)
-
-  flags-over : 64 < d → flagsOf d ≡ none
-  flags-over l = flags-none (omega arith) (omega arith) (omega arith) (omega arith) (omega arith) (omega arith) (omega arith)
-
-pub flags-most : (n : ℕ) → n ≤ ruleFlags → 2 ^ n ≤ 64
-flags-most n h = pow-mono h
+flags-over : (d : ℕ) → 64 < d → flagsOf d ≡ none
+flags-over d l = flags-none d (omega arith) (omega arith) (omega arith) (omega arith) (omega arith) (omega arith) (omega arith)
 
 -- ---- lines
 
@@ -94,7 +55,7 @@ module _ (s : List ℕ) where
 
 -- the output for a line with its flag count, by whether it is a line
 abbrev byLine : List ℕ → ℕ → Bool → List ℕ
-byLine s n b = elim b [ true ↦ report n (map (λ b. b - 48) (take (length s - 1) s)) | false ↦ ascii "bad line\n" ]
+byLine s n b = elim b [ true ↦ report n (values (take (length s - 1) s)) | false ↦ ascii "bad line\n" ]
 
 module _ (s : List ℕ) where
   pub printed-other : flagsOf (length s - 1) ≡ none → printed s ≡ ascii "bad line\n"
@@ -109,7 +70,7 @@ module _ (s : List ℕ) where
       go none = refl
       go (some n) = ap (byLine s n) e
 
-  pub printed-rule : (n : ℕ) → flagsOf (length s - 1) ≡ some n → isLine s ≡ true → printed s ≡ report n (map (λ b. b - 48) (take (length s - 1) s))
+  pub printed-rule : (n : ℕ) → flagsOf (length s - 1) ≡ some n → isLine s ≡ true → printed s ≡ report n (values (take (length s - 1) s))
   unfolding printed printedAs
   printed-rule n f e = ap (printedAs s) f ∙ ap (byLine s n) e
 

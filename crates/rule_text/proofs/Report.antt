@@ -22,12 +22,12 @@ use Rattle.rules.specs.Tree.{cost, write}
 use Rattle.rules.proofs.Fits.{cost-compiled, flags-compiled, raw-compiled, records-compiled, length-compiled}
 use Rattle.rules.proofs.ReadBack.{made-write}
 use Rattle.rule_text.specs.Parts.{shown, firstLine, lastLine, lines, textLimit, Printable}
-use Rattle.rule_text.proofs.Decimal.{length-decimal}
+use Rattle.text.proofs.Decimal.{length-decimal}
 use Rattle.rule_text.proofs.RecordList.{length-records}
 
 pub length-lines : (n : ℕ) (l : List ℕ) (c r : ℕ) → n < 1000 → length l ≤ textLimit → c < 1000 → r < 1000 → length (lines n l c r) ≤ 1400
 unfolding lines firstLine lastLine ascii
-length-lines n l c r a b e f = simp length-append (omega (arith, length-decimal n a, length-decimal c e, length-decimal r f))
+length-lines n l c r a b e f = simp length-append (omega (arith, length-decimal 2 n a, length-decimal 2 c e, length-decimal 2 r f))
 
 module _ (n : ℕ) (table : List ℕ) where
   pub report-lines : report n table ≡ lines n (records (compiled n table)) (cost (compiled n table)) (rawCost (tableForm n table))

@@ -1,4 +1,4 @@
--- The parts of the printed text, as the functions that write them have them, and of the line that is read.
+-- The parts of the printed text, as the functions that write them have them.
 --   gap p                == what stands between the record that begins at byte p and the one before: nothing before the first
 --   kindText k           == a record's text, its mark and its payload as a digit
 --   shown o              == the records of an expression's tree
@@ -7,16 +7,9 @@
 --   lines n l cost raw   == the three lines, where l is the text of the records
 --   textLimit            == what line two has at most, in bytes
 --   Printable n s c r    == the bytes s are an expression of n flags, and it and the two costs are short enough for a page
---   Shows l page         == the page's text is l
---   isDigit b            == the byte is a digit 0 or 1
---   sizeOf s             == the flag count of a line, or none
-use mathlib.Core.Bool.{Bool, _||_}
 use mathlib.Core.List.{List, [], _∷_, _++_}
-use mathlib.Core.Option.{Option, none, some}
-use mathlib.Core.Path.{_≡_}
 use Prim.Native.Nat.{ℕ, zero, suc, _+_, _-_, _≤_, _<_}
-use lib.Dec.{eqb}
-use lib.ListN.{length, take}
+use lib.ListN.{length}
 use Rattle.bits.specs.Bit.{digit}
 use Rattle.rules.specs.Ascii.{ascii}
 use Rattle.rules.specs.Limits.{ruleFlags, recordLimit, byteLimit}
@@ -25,9 +18,6 @@ use Rattle.rules.specs.Outcome.{Outcome, gives, refuses}
 use Rattle.rules.specs.Record.{Kind, Constant, Flag, And, Or, Xor, Not}
 use Rattle.rules.specs.Text.{decimal, records}
 use Rattle.rules.specs.Tree.{Tree}
-use Rattle.rule_text.specs.declared.Page.{Page}
-use Rattle.rule_text.specs.declared.line.Size.{Size}
-use Rattle.rule_text.specs.declared.line.Size.the-variants.{Flags, Other}
 
 -- "one space between records"
 unfoldable pub gap : ℕ → List ℕ
@@ -67,16 +57,3 @@ pub record Printable (n : ℕ) (s : List ℕ) (cost raw : ℕ) : Type 0 where
   pub expression : WellFormed n s
   pub records : length (shown (made n s)) ≤ textLimit
   pub costs : (cost < 1000) × (raw < 1000)
-
-pub record Shows (l : List ℕ) (page : Page) : Type 0 where
-  pub within : page .count ≤ 1400
-  pub size : length (page .bytes) ≡ 1400
-  pub text : take (page .count) (page .bytes) ≡ l
-
--- "digits 0 or 1"
-abbrev pub isDigit : ℕ → Bool
-isDigit b = eqb b 48 || eqb b 49
-
-abbrev pub sizeOf : Size → Option ℕ
-sizeOf (Flags n) = some n
-sizeOf Other = none

@@ -1,35 +1,29 @@
 // The printed text of a rule: the output of the printing program for its whole input. A line of digits is a rule table, whose expression the
-// compiler writes; it is printed as three lines. It rests on `compiler` and on the reader of `expr`.
+// compiler writes; it is printed as three lines. It rests on `compiler`, on the reader of `expr` and on `text`.
 mod line;
-mod text;
+mod lines;
 
-use crate::line::Size;
 use compiler::Compilation;
+use text::Page;
+use text::table::Size;
 ghost use mathlib.Core.Bool.{true};
-ghost use mathlib.Core.List.{map};
 ghost use mathlib.Core.Path.{_≡_};
-ghost use Prim.Native.Nat.{_-_, _^_, _≤_};
+ghost use Prim.Native.Nat.{_^_, _≤_};
 ghost use lib.ListN.{length, take};
 ghost use Rattle.bits.specs.Range.{all};
 ghost use Rattle.rules.specs.Ascii.{ascii};
 ghost use Rattle.rules.specs.Limits.{ruleFlags};
 ghost use Rattle.rules.specs.Machine.{made};
 ghost use Rattle.rules.specs.Text.{report, printed};
-ghost use Rattle.rule_text.specs.Parts.{shown, lines, Printable, Shows, isDigit};
-
-// The output: the first `count` bytes.
-pub struct Page {
-    pub bytes: [u8; 1400],
-    pub count: usize,
-}
+ghost use Rattle.text.specs.Digits.{isDigit, values};
+ghost use Rattle.text.specs.Page.{Shows};
+ghost use Rattle.rule_text.specs.Parts.{shown, lines, Printable};
 
 // The page for input that is no line of a rule.
 fn bad_line() -> Page
     ensures { λ r. ⌜ Shows (ascii "bad line\n") r ⌝ }
 {
-    let mut bytes = [0u8; 1400];
-    let count = text::put_text(b"bad line\n", &mut bytes, 0);
-    Page { bytes, count }
+    text::page_of(b"bad line\n")
 }
 
 // The page of a rule whose expression and costs are these.
@@ -38,18 +32,18 @@ fn rule_page(flags: usize, expression: &[u8], cost: usize, raw: usize) -> Page
     ensures { λ r. ⌜ Shows (lines flags (shown (made flags (now (expression .entry)))) cost raw) r ⌝ }
 {
     let mut bytes = [0u8; 1400];
-    let count = text::put_lines(flags, expression, cost, raw, &mut bytes);
+    let count = lines::put_lines(flags, expression, cost, raw, &mut bytes);
     Page { bytes, count }
 }
 
 // The page of the rule whose table is these digits. The compiler refuses no complete table of up to six flags.
 fn table_page(flags: usize, digits: &[u8]) -> Page
     requires { ⌜ (flags ≤ ruleFlags) × (length (now digits) ≡ 2 ^ flags) × (all isDigit (now digits) ≡ true) ⌝ }
-    ensures { λ r. ⌜ Shows (report flags (map (λ b. b - 48) (now (digits .entry)))) r ⌝ }
+    ensures { λ r. ⌜ Shows (report flags (values (now (digits .entry)))) r ⌝ }
 {
     let count = digits.len();
     let mut table = [0u64; 64];
-    line::entries(digits, &mut table);
+    text::table::entries(digits, &mut table);
     let mut expression = [0u8; 963];
     let answer = compiler::build_anf_expr(flags, &table[..count], &mut expression);
     let Compilation::Written(rule) = answer else {
@@ -68,7 +62,7 @@ pub fn print_rule(input: &[u8]) -> Page
         return bad_line();
     }
     let count = input.len() - 1;
-    let size = line::flag_count(count);
+    let size = text::table::flag_count(count);
     let Size::Flags(flags) = size else {
         return bad_line();
     };

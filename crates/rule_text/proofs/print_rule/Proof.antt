@@ -9,9 +9,10 @@ use lib.Seq.{length-take-le}
 use borrow.Author.Needs.{needs}
 use borrow.Author.Tests.{not-true, not-false}
 use Rattle.rules.specs.Text.{flagsOf, isLine}
-use Rattle.rule_text.specs.Parts.{sizeOf}
-use Rattle.rule_text.proofs.Printed.{flags-some, line-long, line-all, printed-other, printed-ragged, printed-rule}
-use Rattle.rule_text.proofs.Shown.{shows-eq, shows-told}
+use Rattle.text.specs.Digits.{sizeOf}
+use Rattle.text.proofs.FlagCount.{flags-some}
+use Rattle.rule_text.proofs.Printed.{line-long, line-all, printed-other, printed-ragged, printed-rule}
+use Rattle.text.proofs.Shown.{shows-eq, shows-told}
 use Rattle.rule_text.proofs.print_rule.Statement.{statement}
 use Rattle.rule_text.proofs.print_rule.Tie as tie
 
