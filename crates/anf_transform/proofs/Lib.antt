@@ -5,3 +5,4 @@ pub mod AcrossWords
 pub mod Words
 pub mod Unpacked
 pub mod Told
+pub mod TableForm

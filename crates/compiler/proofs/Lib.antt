@@ -1,6 +1,6 @@
 pub mod Choices
 pub mod Remainders
 pub mod Copied
-pub mod TableForm
+pub mod TableTree
 pub mod Told
 pub mod Demand

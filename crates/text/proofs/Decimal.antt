@@ -1,6 +1,8 @@
 -- Numbers in base ten: the last digit after the digits of the tens. It rests on the step of the recursion that defines them (bits, Fixed). Assumes nothing.
 --   decimal-one, decimal-more    == the digits of a number below ten, and of another
 --   length-decimal               == a number below a power of ten has at most as many digits as the power says, where that is one or more
+--   length-word                  == a number of 64 bits has at most twenty digits
+--   room-number, number-short    == so there is room for a text and such a number, and where they end
 use mathlib.Core.Bool.{Bool, true, false}
 use mathlib.Core.List.{List, [], _∷_, _++_}
 use mathlib.Core.Path.{_≡_, ap, _∙_}
@@ -13,6 +15,7 @@ use borrow.Author.Tests.{lt-ltb, le-ltb}
 use Rattle.bits.specs.Fixed.{below}
 use Rattle.bits.proofs.Fixed.{below-less, fixed-step}
 use Rattle.rules.specs.Text.{decimalTurn, decimal}
+use Rattle.text.specs.Put.{Room, Put}
 
 -- the digits by whether the number is below ten
 abbrev turn : (ℕ → List ℕ) → ℕ → Bool → List ℕ
@@ -45,3 +48,12 @@ length-decimal (suc d) k h = elim (decLt k 10) [
       let tens : k / 10 < 10 ^ suc d = omega arith in
       omega (arith, ap length (decimal-more k (omega arith)), length-append (decimal (k / 10)) ((48 + k % 10) ∷ []), length-decimal d (k / 10) tens)
 ]
+
+pub length-word : (k : ℕ) → k < 2 ^ 64 → length (decimal k) ≤ 20
+length-word k h = length-decimal 19 k (omega arith)
+
+pub room-number : (label : List ℕ) (k at : ℕ) (out : List ℕ) → k < 2 ^ 64 → at + length label + 20 ≤ length out → Room (label ++ decimal k) at out
+room-number label k at out h r = omega (arith, length-append label (decimal k), length-word k h)
+
+pub number-short : (label : List ℕ) (k : ℕ) {a b : ℕ} {out after : List ℕ} → k < 2 ^ 64 → Put (label ++ decimal k) a b out after → b ≤ a + length label + 20
+number-short label k h p = omega (arith, length-append label (decimal k), length-word k h)

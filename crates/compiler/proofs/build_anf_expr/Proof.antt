@@ -1,5 +1,5 @@
 -- `compiler::build_anf_expr` meets its contract: each `return` is a row of the refusal table, or the end with no row left, where the expression that `emit`
--- wrote into the call's own buffer stands at the front of the lent one (Told). That buffer is long enough (TableForm). Assumes nothing.
+-- wrote into the call's own buffer stands at the front of the lent one (Told). That buffer is long enough (TableTree). Assumes nothing.
 use mathlib.Core.Path.{_≡_}
 use Prim.Native.Nat.{_^_, _≤_}
 use native.Mathlib.Omega.{arith}
@@ -10,8 +10,9 @@ use Rattle.rules.specs.Calls.{tableForm}
 use Rattle.rules.specs.Cleanup.{cleanup}
 use Rattle.rules.specs.Limits.{ruleFlags, byteLimit}
 use Rattle.rules.specs.Tree.{write}
+use Rattle.anf_transform.proofs.TableForm.{table-form}
 use Rattle.compiler.proofs.Choices.{planned-meant}
-use Rattle.compiler.proofs.TableForm.{table-form, table-room}
+use Rattle.compiler.proofs.TableTree.{table-room}
 use Rattle.compiler.proofs.Told.{Made, made, told-flags, told-table, told-room, told-expression}
 use Rattle.compiler.proofs.build_anf_expr.Statement.{statement}
 use Rattle.compiler.proofs.build_anf_expr.Tie as tie

@@ -1,0 +1,18 @@
+-- `examination_text::not_table` meets its contract: the page of the text. Assumes nothing.
+use Rattle.rules.specs.Ascii.{ascii}
+use borrow.Author.Needs.{needs}
+use Rattle.examination_text.proofs.not_table.Statement.{statement}
+use Rattle.examination_text.proofs.not_table.Tie as tie
+
+slice-aggregate-page-of : tie.Need-slice-aggregate-page-of
+slice-aggregate-page-of c = search needs
+
+page-of-requires : tie.Need-page-of-requires
+page-of-requires c κs = search needs
+
+returns : tie.Need-returns
+unfolding ascii
+returns c = c .page-of .ensures
+
+pub not-table-spec : {M : Type 1} → statement M
+not-table-spec = tie.close (tie.spec slice-aggregate-page-of page-of-requires returns)

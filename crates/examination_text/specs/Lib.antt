@@ -1,0 +1,4 @@
+pub mod Notation
+pub mod Words
+pub mod Input
+pub mod Parts
