@@ -1,8 +1,9 @@
 # What can be done here; `make` alone lists it.
-.PHONY: help test print_rule console bench compare
+.PHONY: help test print_rule examine_rule console bench compare
 .DEFAULT_GOAL := help
 
 TABLE = 0111
+RULE = VA0 VA1 OR
 log = target/make.log
 have_rt = command -v rt >/dev/null || { echo "needs rt, the Rattle toolchain's command, on the PATH"; exit 1; }
 have_cc = command -v cc >/dev/null || { echo "needs cc, a C compiler, on the PATH"; exit 1; }
@@ -20,6 +21,11 @@ print_rule: ## print the expression of a rule table: TABLE=0111
 	@$(have_rt)
 	@$(call quiet,rt check print_rule)
 	@printf '%s\n' '$(TABLE)' | target/bin/print_rule
+
+examine_rule: ## examine a rule against its table and say the verdict in words: TABLE=0111 RULE='VA0 VA1 OR'
+	@$(have_rt)
+	@$(call quiet,rt check examine_rule)
+	@printf '%s\n' '$(TABLE)' '$(RULE)' | target/bin/examine_rule
 
 console: ## build the console's library and run the C example over include/console.h, under valgrind where that is installed
 	@$(have_rt)

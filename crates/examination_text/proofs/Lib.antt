@@ -3,6 +3,7 @@ pub mod Records
 pub mod Rule
 pub mod Walk
 pub mod Flags
-pub mod Refused
+pub mod Reasons
 pub mod Input
 pub mod Example
+pub mod Rows

@@ -11,7 +11,6 @@ use mathlib.Core.Bool.{Bool, true, false, not}
 use mathlib.Core.List.{List, [], _∷_, _++_}
 use mathlib.Core.Path.{_≡_, refl, sym, ap, ap₂, _∙_}
 use Prim.Native.Nat.{ℕ, suc, _+_, _-_, _≤_, _<_}
-use native.Mathlib.Numerals.{add-one}
 use native.Mathlib.Omega.{arith}
 use lib.Dec.{eqb}
 use lib.ListN.{length, getD, take, drop, length-drop}
@@ -35,14 +34,14 @@ module _ (b : ℕ) where
   unfolding split
   split-pass x s e = ap (turn x s) (not-true (eqb x b) e)
 
-  pub split-one : (s : List ℕ) → all (other b) s ≡ true → split b s ≡ s ∷ []
+  split-one : (s : List ℕ) → all (other b) s ≡ true → split b s ≡ s ∷ []
   unfolding all attach
   split-one [] e = unfold split in refl
   split-one (x ∷ s) e =
       split-pass x s (and-true-l (other b x) (all (other b) s) e)
       ∙ ap (attach x) (split-one s (and-true-r (other b x) (all (other b) s) e))
 
-  pub split-two : (t u : List ℕ) → all (other b) t ≡ true → split b (t ++ b ∷ u) ≡ t ∷ split b u
+  split-two : (t u : List ℕ) → all (other b) t ≡ true → split b (t ++ b ∷ u) ≡ t ∷ split b u
   unfolding all attach
   split-two [] u e = unfold split in ap (turn b u) (eq-eqb b b refl)
   split-two (x ∷ t) u e =

@@ -7,6 +7,8 @@ use rules::DIFFERS;
 use rules::FEW_OPERANDS;
 use rules::MANY_RECORDS;
 use rules::Refusal;
+use text::out::put_number;
+use text::out::put_text;
 ghost use mathlib.Core.Path.{_≡_};
 ghost use Prim.Native.Nat.{_+_, _^_, _≤_, _<_};
 ghost use lib.ListN.{length};
@@ -14,12 +16,12 @@ ghost use Rattle.bits.specs.Word.{places};
 ghost use Rattle.rules.specs.Calls.{tableForm};
 ghost use Rattle.rules.specs.Form.{rawCost};
 ghost use Rattle.rules.specs.Limits.{ruleFlags};
+ghost use Rattle.rules.specs.Outcome.{refuses};
 ghost use Rattle.examiner.specs.Answer.{examinationOf};
 ghost use Rattle.text.specs.Put.{Put};
 ghost use Rattle.examination_text.specs.Notation.{recordTexts};
 ghost use Rattle.examination_text.specs.Parts.{flagName};
-ghost use Rattle.examination_text.specs.Words;
-ghost use Rattle.examination_text.specs.Words.{named, flagNames, difference};
+ghost use Rattle.examination_text.specs.Words.{named, flagNames, difference, aboveRaw, reason, words};
 
 // A flag after a space, where it is set.
 fn put_flag(flag: usize, setting: usize, out: &mut [u8], at: usize) -> usize
@@ -29,7 +31,7 @@ fn put_flag(flag: usize, setting: usize, out: &mut [u8], at: usize) -> usize
     if (setting >> flag) % 2 == 0 {
         return at;
     }
-    text::out::put_number(b" ", flag, out, at)
+    put_number(b" ", flag, out, at)
 }
 
 // The flags that are set.
@@ -51,29 +53,28 @@ fn put_flag_names(flags: usize, setting: usize, out: &mut [u8], at: usize) -> us
 {
     let end = put_flags(flags, setting, out, at);
     if end == at {
-        return text::out::put_text(b" none", out, at);
+        return put_text(b" none", out, at);
     }
     end
 }
 
 // A difference from the table at a setting.
-fn put_difference(flags: usize, setting: usize, out: &mut [u8]) -> usize
-    requires { ⌜ (flags ≤ ruleFlags) × (200 ≤ length (now out)) ⌝ }
-    ensures { λ r. ⌜ Put (difference flags setting) 0 r (now (out .entry)) (now (out .exit)) ⌝ }
+fn put_difference(flags: usize, setting: usize, out: &mut [u8], at: usize) -> usize
+    requires { ⌜ (flags ≤ ruleFlags) × (at + 100 ≤ length (now out)) ⌝ }
+    ensures { λ r. ⌜ Put (difference flags setting) at r (now (out .entry)) (now (out .exit)) ⌝ }
 {
-    let label = b"refused by row 12: differs from the table at setting ";
-    let number = text::out::put_number(label, setting, out, 0);
-    let names = text::out::put_text(b", flags set:", out, number);
+    let number = put_number(b"differs from the table at setting ", setting, out, at);
+    let names = put_text(b", flags set:", out, number);
     put_flag_names(flags, setting, out, names)
 }
 
 // A cost above the raw cost.
-fn put_costs(cost: usize, raw: usize, out: &mut [u8]) -> usize
-    requires { ⌜ 200 ≤ length (now out) ⌝ }
-    ensures { λ r. ⌜ Put (Words.tooCostly raw cost) 0 r (now (out .entry)) (now (out .exit)) ⌝ }
+fn put_costs(cost: usize, raw: usize, out: &mut [u8], at: usize) -> usize
+    requires { ⌜ at + 100 ≤ length (now out) ⌝ }
+    ensures { λ r. ⌜ Put (aboveRaw raw cost) at r (now (out .entry)) (now (out .exit)) ⌝ }
 {
-    let end = text::out::put_number(b"refused by row 13: cost ", cost, out, 0);
-    text::out::put_number(b" is above the raw cost ", raw, out, end)
+    let end = put_number(b"cost ", cost, out, at);
+    put_number(b" is above the raw cost ", raw, out, end)
 }
 
 // The raw cost of a table.
@@ -85,47 +86,50 @@ fn raw_cost(flags: usize, table: &[u64]) -> usize
     anf_form::raw_cost(anf_transform::rule::anf_word(flags, bits))
 }
 
-// A refusal, its row and its place.
-fn put_refusal(refusal: Refusal, flags: usize, table: &[u64], line: &[u8], out: &mut [u8]) -> usize
-    requires { ⌜ (flags ≤ ruleFlags) × (2 ^ flags ≤ length (now table)) × (200 ≤ length (now out)) ⌝ }
-    ensures { λ r. ⌜ Put (Words.refusal flags (now (table .entry)) (recordTexts (now (line .entry))) (refusal .number) (refusal .place)) 0 r (now (out .entry)) (now (out .exit)) ⌝ }
+// The reason of a refusal.
+fn put_reason(
+    refusal: Refusal,
+    flags: usize,
+    table: &[u64],
+    line: &[u8],
+    out: &mut [u8],
+    at: usize,
+) -> usize
+    requires { ⌜ (flags ≤ ruleFlags) × (2 ^ flags ≤ length (now table)) × (at + 100 ≤ length (now out)) ⌝ }
+    ensures { λ r. ⌜ Put (reason flags (now (table .entry)) (recordTexts (now (line .entry))) (refusal .number) (refusal .place)) at r (now (out .entry)) (now (out .exit)) ⌝ }
 {
     let number = refusal.number;
     let place = refusal.place;
     let record = crate::notation::record_number(line, place);
     match number {
-        BAD_MARK => text::out::put_number(
-            b"refused by row 6: unknown mark, at record ",
+        BAD_MARK => put_number(b"unknown mark, at record ", record, out, at),
+        BAD_PAYLOAD => put_number(
+            b"payload missing or out of range, at record ",
             record,
             out,
-            0,
+            at,
         ),
-        BAD_PAYLOAD => text::out::put_number(
-            b"refused by row 7: payload missing or out of range, at record ",
-            record,
+        FEW_OPERANDS => put_number(b"too few operands, at record ", record, out, at),
+        MANY_RECORDS => put_number(b"more than 385 records, at record ", record, out, at),
+        BAD_END => put_text(
+            b"no record, or more than one operand left at the end",
             out,
-            0,
+            at,
         ),
-        FEW_OPERANDS => text::out::put_number(
-            b"refused by row 8: too few operands, at record ",
-            record,
-            out,
-            0,
-        ),
-        MANY_RECORDS => text::out::put_number(
-            b"refused by row 9: more than 385 records, at record ",
-            record,
-            out,
-            0,
-        ),
-        BAD_END => text::out::put_text(
-            b"refused by row 10: no record, or more than one operand left at the end",
-            out,
-            0,
-        ),
-        DIFFERS => put_difference(flags, place, out),
-        _ => put_costs(place, raw_cost(flags, table), out),
+        DIFFERS => put_difference(flags, place, out, at),
+        _ => put_costs(place, raw_cost(flags, table), out, at),
     }
+}
+
+// A refusal: its row, and the reason.
+fn put_refusal(refusal: Refusal, flags: usize, table: &[u64], line: &[u8], out: &mut [u8]) -> usize
+    requires { ⌜ (flags ≤ ruleFlags) × (2 ^ flags ≤ length (now table)) × (200 ≤ length (now out)) ⌝ }
+    ensures { λ r. ⌜ Put (words flags (now (table .entry)) (recordTexts (now (line .entry))) (refuses (refusal .number) (refusal .place))) 0 r (now (out .entry)) (now (out .exit)) ⌝ }
+{
+    let row = refusal.number as usize;
+    let end = put_number(b"refused by row ", row, out, 0);
+    let start = put_text(b": ", out, end);
+    put_reason(refusal, flags, table, line, out, start)
 }
 
 // The verdict.
@@ -137,10 +141,10 @@ pub fn put_verdict(
     out: &mut [u8],
 ) -> usize
     requires { ⌜ (flags ≤ ruleFlags) × (2 ^ flags ≤ length (now table)) × (200 ≤ length (now out)) ⌝ }
-    ensures { λ r. ⌜ Put (Words.words flags (now (table .entry)) (recordTexts (now (line .entry))) (examinationOf answer)) 0 r (now (out .entry)) (now (out .exit)) ⌝ }
+    ensures { λ r. ⌜ Put (words flags (now (table .entry)) (recordTexts (now (line .entry))) (examinationOf answer)) 0 r (now (out .entry)) (now (out .exit)) ⌝ }
 {
     match answer {
-        Examination::Accepted(cost) => text::out::put_number(b"accepted, cost ", cost, out, 0),
+        Examination::Accepted(cost) => put_number(b"accepted, cost ", cost, out, 0),
         Examination::Refused(refusal) => put_refusal(refusal, flags, table, line, out),
     }
 }

@@ -49,7 +49,7 @@ length-decimal (suc d) k h = elim (decLt k 10) [
       omega (arith, ap length (decimal-more k (omega arith)), length-append (decimal (k / 10)) ((48 + k % 10) ∷ []), length-decimal d (k / 10) tens)
 ]
 
-pub length-word : (k : ℕ) → k < 2 ^ 64 → length (decimal k) ≤ 20
+length-word : (k : ℕ) → k < 2 ^ 64 → length (decimal k) ≤ 20
 length-word k h = length-decimal 19 k (omega arith)
 
 pub room-number : (label : List ℕ) (k at : ℕ) (out : List ℕ) → k < 2 ^ 64 → at + length label + 20 ≤ length out → Room (label ++ decimal k) at out

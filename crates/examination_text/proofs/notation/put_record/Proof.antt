@@ -1,13 +1,12 @@
 -- `examination_text::notation::put_record` meets its contract: two letters, and the digit's value where there is one (Records). Assumes nothing.
-use mathlib.Core.List.{List, [], _∷_, _++_}
+use mathlib.Core.List.{[], _∷_}
 use mathlib.Core.Path.{_≡_, sym}
-use Prim.Native.Nat.{ℕ, _-_, _≤_}
+use Prim.Native.Nat.{_-_, _≤_}
 use native.Mathlib.Omega.{arith}
-use lib.ListN.{length, getD, take, length-append}
+use lib.ListN.{length, getD, take}
 use lib.Seq.{length-take-le}
 use Rattle.text.specs.Put.{Room}
 use Rattle.text.proofs.Put.{put-append, put-eq, room-eq, room-next}
-use Rattle.examination_text.specs.Notation.{recordBytes}
 use Rattle.examination_text.proofs.Records.{record-size, record-digit, bytes-two, bytes-three, length-bytes}
 use borrow.Author.Needs.{needs}
 use Rattle.examination_text.proofs.notation.put_record.Statement.{statement}

@@ -1,8 +1,7 @@
 -- `examination_text::notation::put_rule` meets its contract. The loop's invariant is `Walk`: the records from the place on are left to write. The measure is what is
 -- left of the line. Assumes nothing.
-use mathlib.Core.List.{List}
 use mathlib.Core.Path.{sym, ap}
-use Prim.Native.Nat.{ℕ, _-_}
+use Prim.Native.Nat.{_-_}
 use native.Mathlib.Omega.{arith}
 use lib.ListN.{length}
 use Rattle.bits.specs.Sum.{sum}

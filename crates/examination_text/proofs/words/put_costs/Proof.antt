@@ -6,13 +6,13 @@ use Rattle.rules.specs.Ascii.{ascii}
 use Rattle.rules.specs.Text.{decimal}
 use Rattle.text.proofs.Decimal.{room-number, number-short}
 use Rattle.text.proofs.Put.{put-append, put-length}
-use Rattle.examination_text.specs.Words.{tooCostly}
+use Rattle.examination_text.specs.Words.{aboveRaw}
 use borrow.Author.Needs.{needs}
 use Rattle.examination_text.proofs.words.put_costs.Statement.{statement}
 use Rattle.examination_text.proofs.words.put_costs.Tie as tie
 
 abbrev first : List ℕ
-first = ascii "refused by row 13: cost "
+first = ascii "cost "
 
 abbrev second : List ℕ
 second = ascii " is above the raw cost "
@@ -22,7 +22,7 @@ slice-aggregate-put-number c = search needs
 
 put-number-requires : tie.Need-put-number-requires
 unfolding ascii
-put-number-requires c κs = let s = c .before .before .before in room-number first (s .args .cost) 0 _ (s .fits .cost .fits) (omega arith)
+put-number-requires c κs = let s = c .before .before .before in room-number first (s .args .cost) (s .args .at) _ (s .fits .cost .fits) (omega arith)
 
 slice-aggregate-put-number-2 : tie.Need-slice-aggregate-put-number-2
 slice-aggregate-put-number-2 c = search needs
@@ -39,7 +39,7 @@ same-length : tie.Need-same-length
 same-length c = search needs
 
 returns : tie.Need-returns
-unfolding ascii tooCostly
+unfolding ascii aboveRaw
 returns c =
     let q = c .before .before in
     let p = q .before .before .before .before .before in

@@ -1,188 +1,75 @@
--- `examination_text::words::put_refusal` meets its contract: each row's words are one law of Refused. Assumes nothing.
+-- `examination_text::words::put_refusal` meets its contract: the row, and then the reason. Assumes nothing.
 use mathlib.Core.List.{List, _++_}
-use mathlib.Core.Path.{_≡_, sym, ap, _∙_}
-use Prim.Native.Nat.{ℕ}
+use Prim.Native.Nat.{ℕ, _^_, _≤_, _<_}
 use native.Mathlib.Omega.{arith}
 use Rattle.rules.specs.Ascii.{ascii}
 use Rattle.rules.specs.Text.{decimal}
-use Rattle.text.proofs.Decimal.{room-number}
-use Rattle.text.proofs.Put.{put-eq}
-use Rattle.examination_text.specs.Notation.{recordTexts, recordOf}
-use Rattle.examination_text.specs.Words.{tooCostly, refusal}
-use Rattle.examination_text.proofs.Refused.{refused-mark, refused-payload, refused-operands, refused-records, refused-end, refused-differs, refused-costly}
+use Rattle.text.proofs.Decimal.{room-number, number-short}
+use Rattle.text.proofs.Put.{put-append, put-length}
+use Rattle.examination_text.specs.Words.{words}
 use borrow.Author.Needs.{needs}
 use Rattle.examination_text.proofs.words.put_refusal.Statement.{statement}
 use Rattle.examination_text.proofs.words.put_refusal.Tie as tie
 
-abbrev mark : List ℕ
-mark = ascii "refused by row 6: unknown mark, at record "
+abbrev first : List ℕ
+first = ascii "refused by row "
 
-abbrev payload : List ℕ
-payload = ascii "refused by row 7: payload missing or out of range, at record "
+abbrev second : List ℕ
+second = ascii ": "
 
-abbrev operands : List ℕ
-operands = ascii "refused by row 8: too few operands, at record "
+-- the row is a number of 64 bits, and where it ends
+row : (s : tie.Start) → s .args .refusal .number < 2 ^ 64
+row s = omega arith
 
-abbrev records : List ℕ
-records = ascii "refused by row 9: more than 385 records, at record "
+abbrev start : tie.After-put-number → tie.Start
+start p = p .before .before .before .before .before .before
 
--- the number that was written is that of the record
-module _ (r : tie.After-record-number) where
-  abbrev words : List ℕ
-  words =
-      let a = r .before .before .before .before .args in
-      refusal (a .flags) (a .table .now) (recordTexts (a .line .now)) (a .refusal .number) (a .refusal .place)
-
-  spoken : (label : List ℕ) → (let a = r .before .before .before .before .args in words ≡ label ++ decimal (recordOf (recordTexts (a .line .now)) (a .refusal .place)))
-      → label ++ decimal (r .record-number .result) ≡ words
-  spoken label e = ap (λ (j : ℕ). label ++ decimal j) (r .record-number .ensures) ∙ sym e
-
-record-number-requires : tie.Need-record-number-requires
-record-number-requires c κs = search needs
+short : (p : tie.After-put-number) → p .put-number .result ≤ 35
+unfolding ascii
+short p = omega (arith, number-short first (start p .args .refusal .number) (row (start p)) (p .put-number .ensures))
 
 slice-aggregate-put-number : tie.Need-slice-aggregate-put-number
 slice-aggregate-put-number c = search needs
 
 put-number-requires : tie.Need-put-number-requires
 unfolding ascii
-put-number-requires c κs = let r = c .before .before .before in room-number mark (r .record-number .result) 0 _ (r .record-number .ok) (omega arith)
-
-slice-aggregate-put-number-2 : tie.Need-slice-aggregate-put-number-2
-slice-aggregate-put-number-2 c = search needs
-
-put-number-requires-2 : tie.Need-put-number-requires-2
-unfolding ascii
-put-number-requires-2 c κs = let r = c .before .before .before in room-number payload (r .record-number .result) 0 _ (r .record-number .ok) (omega arith)
-
-slice-aggregate-put-number-3 : tie.Need-slice-aggregate-put-number-3
-slice-aggregate-put-number-3 c = search needs
-
-put-number-requires-3 : tie.Need-put-number-requires-3
-unfolding ascii
-put-number-requires-3 c κs = let r = c .before .before .before in room-number operands (r .record-number .result) 0 _ (r .record-number .ok) (omega arith)
-
-slice-aggregate-put-number-4 : tie.Need-slice-aggregate-put-number-4
-slice-aggregate-put-number-4 c = search needs
-
-put-number-requires-4 : tie.Need-put-number-requires-4
-unfolding ascii
-put-number-requires-4 c κs = let r = c .before .before .before in room-number records (r .record-number .result) 0 _ (r .record-number .ok) (omega arith)
+put-number-requires c κs = let s = c .before .before .before .before .before in room-number first (s .args .refusal .number) 0 _ (row s) (omega arith)
 
 slice-aggregate-put-text : tie.Need-slice-aggregate-put-text
 slice-aggregate-put-text c = search needs
 
 put-text-requires : tie.Need-put-text-requires
-put-text-requires c κs = search needs
+unfolding ascii
+put-text-requires c κs = let p = c .before .before .before .before in omega (arith, short p, put-length (p .put-number .ensures))
 
-put-difference-requires : tie.Need-put-difference-requires
-put-difference-requires c κs = search needs
-
-raw-cost-requires : tie.Need-raw-cost-requires
-raw-cost-requires c κs = search needs
-
-put-costs-requires : tie.Need-put-costs-requires
-put-costs-requires c κs = search needs
+put-reason-requires : tie.Need-put-reason-requires
+unfolding ascii
+put-reason-requires c κs =
+    let q = c .before .before .before in
+    let p = q .before .before .before .before .before in
+    let s = start p in
+    (s .pre .0, s .pre .1, omega (arith, short p, put-length (p .put-number .ensures), q .put-text .ensures .place, put-length (q .put-text .ensures)))
 
 same-length : tie.Need-same-length
 same-length c = search needs
 
 returns : tie.Need-returns
-unfolding ascii
+unfolding ascii words
 returns c =
-    let p = c .before .before in
-    let m = p .before .before .before in
-    put-eq (spoken (m .before) mark (refused-mark _ _ _ _ _ (m .match .keys1))) (p .put-number .ensures)
-
-same-length-2 : tie.Need-same-length-2
-same-length-2 c = search needs
-
-returns-2 : tie.Need-returns-2
-unfolding ascii
-returns-2 c =
-    let p = c .before .before in
-    let m = p .before .before .before in
-    put-eq (spoken (m .before) payload (refused-payload _ _ _ _ _ (m .match .keys2))) (p .put-number2 .ensures)
-
-same-length-3 : tie.Need-same-length-3
-same-length-3 c = search needs
-
-returns-3 : tie.Need-returns-3
-unfolding ascii
-returns-3 c =
-    let p = c .before .before in
-    let m = p .before .before .before in
-    put-eq (spoken (m .before) operands (refused-operands _ _ _ _ _ (m .match .keys3))) (p .put-number3 .ensures)
-
-same-length-4 : tie.Need-same-length-4
-same-length-4 c = search needs
-
-returns-4 : tie.Need-returns-4
-unfolding ascii
-returns-4 c =
-    let p = c .before .before in
-    let m = p .before .before .before in
-    put-eq (spoken (m .before) records (refused-records _ _ _ _ _ (m .match .keys4))) (p .put-number4 .ensures)
-
-same-length-5 : tie.Need-same-length-5
-same-length-5 c = search needs
-
-returns-5 : tie.Need-returns-5
-unfolding ascii
-returns-5 c =
-    let p = c .before .before in
-    let m = p .before .before .before in
-    put-eq (sym (refused-end _ _ _ _ _ (m .match .keys5))) (p .put-text .ensures)
-
-same-length-6 : tie.Need-same-length-6
-same-length-6 c = search needs
-
-returns-6 : tie.Need-returns-6
-returns-6 c =
-    let p = c .before .before in
-    let m = p .before .before in
-    put-eq (sym (refused-differs _ _ _ _ _ (m .match .keys6))) (p .put-difference .ensures)
-
-same-length-7 : tie.Need-same-length-7
-same-length-7 c = search needs
-
-returns-7 : tie.Need-returns-7
-returns-7 c =
-    let p = c .before .before in
-    let r = p .before .before in
-    let a = r .before .before .before .before .before .before .args in
-    let k = r .before .match .rest in
-    put-eq (ap (λ (raw : ℕ). tooCostly raw (a .refusal .place)) (r .raw-cost .ensures)
-    ∙ sym (refused-costly _ _ _ _ _ (k .0 .0 .0 .0 .0 .1) (k .0 .0 .0 .0 .1) (k .0 .0 .0 .1) (k .0 .0 .1) (k .0 .1) (k .1))) (p .put-costs .ensures)
+    let r = c .before .before in
+    let q = r .before .before .before .before in
+    let p = q .before .before .before .before .before in
+    let label = first ++ decimal (start p .args .refusal .number) in
+    put-append {l = label ++ second} (put-append {l = label} {m = second} (p .put-number .ensures) (q .put-text .ensures)) (r .put-reason .ensures)
 
 pub put-refusal-spec : {M : Type 1} → statement M
 put-refusal-spec =
     tie.close
     (tie.spec
-    record-number-requires
     slice-aggregate-put-number
     put-number-requires
-    slice-aggregate-put-number-2
-    put-number-requires-2
-    slice-aggregate-put-number-3
-    put-number-requires-3
-    slice-aggregate-put-number-4
-    put-number-requires-4
     slice-aggregate-put-text
     put-text-requires
-    put-difference-requires
-    raw-cost-requires
-    put-costs-requires
+    put-reason-requires
     same-length
-    returns
-    same-length-2
-    returns-2
-    same-length-3
-    returns-3
-    same-length-4
-    returns-4
-    same-length-5
-    returns-5
-    same-length-6
-    returns-6
-    same-length-7
-    returns-7)
+    returns)
