@@ -43,7 +43,7 @@ recordBytes t = take 2 t ++ map (λ b. b - 48) (drop 2 t)
 unfoldable pub expression : List (List ℕ) → List ℕ
 expression ts = sum _++_ [] recordBytes ts
 
--- a place behind all records is taken for the last record's
+-- the places of the rows 6, 7, 8 and 9 lie in the expression (proofs/Rows); a place behind it is taken for the last record's
 unfoldable pub recordOf : List (List ℕ) → ℕ → ℕ
 recordOf [] p = 0
 recordOf (t ∷ ts) p =

@@ -31,7 +31,7 @@ difference n p = ascii "differs from the table at setting " ++ decimal p ++ asci
 unfoldable pub aboveRaw : ℕ → ℕ → List ℕ
 aboveRaw raw p = ascii "cost " ++ decimal p ++ (ascii " is above the raw cost " ++ decimal raw)
 
--- by the rows 6, 7, 8, 9, 10 and 12, and else by 13: no other row refuses a rule of a table of up to six flags (proofs/Rows)
+-- by the rows 6, 7, 8, 9, 10 and 12, and else by 13: no other row refuses a rule for a table of up to six flags (proofs/Rows)
 unfoldable pub reason : ℕ → List ℕ → List (List ℕ) → ℕ → ℕ → List ℕ
 reason n table ts k p =
     elim (eqb k badMark) [

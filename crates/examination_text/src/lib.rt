@@ -22,7 +22,7 @@ ghost use Rattle.examination_text.specs.Words;
 ghost use Rattle.examination_text.specs.Input.{longest, notLines, notTable, ofRule, ofTable, verdictPage};
 
 // What the input has at most, in bytes.
-pub const LONGEST: usize = 4095;
+const LONGEST: usize = 4095;
 
 // The page of the verdict on an expression, whose records stand in the line.
 fn verdict_page(flags: usize, table: &[u64], expression: &[u8], line: &[u8]) -> Page

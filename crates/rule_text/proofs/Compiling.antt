@@ -11,6 +11,7 @@ use Prim.Native.Nat.{ℕ, _^_, _≤_}
 use native.Mathlib.Omega.{arith}
 use lib.ListN.{length, getD, take}
 use lib.Seq.{length-take-le, getD-take}
+use Rattle.bits.proofs.Tabulated.{length-map-upto, map-upto-of}
 use Rattle.rules.specs.Calls as Calls
 use Rattle.rules.specs.Calls.{tableForm, compiled, compilation, compile}
 use Rattle.rules.specs.Form.{rawCost}
@@ -22,9 +23,8 @@ use Rattle.rules.specs.Tree.{cost, write}
 use Rattle.rules.specs.declared.Refusal.{Refusal}
 use Rattle.rules.proofs.Fits.{length-compiled}
 use Rattle.rules.proofs.Outcome.{gives-same}
-use Rattle.bits.proofs.Tabulated.{length-map-upto, map-upto-of}
-use Rattle.compiler.specs.Answer.{compilationOf}
 use Rattle.rules.specs.Outcome.{front}
+use Rattle.compiler.specs.Answer.{compilationOf}
 use Rattle.compiler.specs.declared.Compilation.{Compilation}
 use Rattle.compiler.specs.declared.Expression.{Expression}
 use Rattle.rule_text.specs.Parts.{shown, lines, Printable}

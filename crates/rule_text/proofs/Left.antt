@@ -33,9 +33,9 @@ use Rattle.expr.specs.Answers.{readingOf}
 use Rattle.expr.specs.declared.Reading.{Reading}
 use Rattle.expr.proofs.Reader.{Read, read-end, read-refused}
 use Rattle.expr.proofs.Reading.{the-type}
-use Rattle.rule_text.specs.Parts.{gap, kindText, shown}
 use Rattle.text.specs.Put.{Room, Put}
 use Rattle.text.proofs.Put.{put-none, put-append, put-eq, room-eq, room-first, room-next}
+use Rattle.rule_text.specs.Parts.{gap, kindText, shown}
 use Rattle.rule_text.proofs.RecordList.{kinds, each, spaced, write-kinds, records-kinds, flags-kinds}
 
 pub gap-none : (p : ℕ) → p ≡ 0 → gap p ≡ []

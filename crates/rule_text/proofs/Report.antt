@@ -21,8 +21,8 @@ use Rattle.rules.specs.Text.{records, report}
 use Rattle.rules.specs.Tree.{cost, write}
 use Rattle.rules.proofs.Fits.{cost-compiled, flags-compiled, raw-compiled, records-compiled, length-compiled}
 use Rattle.rules.proofs.ReadBack.{made-write}
-use Rattle.rule_text.specs.Parts.{shown, firstLine, lastLine, lines, textLimit, Printable}
 use Rattle.text.proofs.Decimal.{length-decimal}
+use Rattle.rule_text.specs.Parts.{shown, firstLine, lastLine, lines, textLimit, Printable}
 use Rattle.rule_text.proofs.RecordList.{length-records}
 
 pub length-lines : (n : ℕ) (l : List ℕ) (c r : ℕ) → n < 1000 → length l ≤ textLimit → c < 1000 → r < 1000 → length (lines n l c r) ≤ 1400

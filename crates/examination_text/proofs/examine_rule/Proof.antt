@@ -3,10 +3,10 @@ use mathlib.Core.List.{List}
 use mathlib.Core.Path.{sym, _∙_}
 use Prim.Native.Nat.{ℕ}
 use lib.Seq.{length-take-le}
+use borrow.Author.Needs.{needs}
 use Rattle.rules.specs.Ascii.{ascii}
 use Rattle.text.proofs.Shown.{shows-eq, shows-told}
 use Rattle.examination_text.proofs.Input.{page-long, page-lines, lines-one, lines-more, lines-two}
-use borrow.Author.Needs.{needs}
 use Rattle.examination_text.proofs.examine_rule.Statement.{statement}
 use Rattle.examination_text.proofs.examine_rule.Tie as tie
 

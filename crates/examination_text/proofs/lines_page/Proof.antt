@@ -4,13 +4,13 @@ use mathlib.Core.Option.{some}
 use mathlib.Core.Path.{_≡_, sym, ap, _∙_}
 use lib.ListN.{length}
 use borrow.Author.Tests.{not-true, not-false}
+use borrow.Author.Needs.{needs}
 use Rattle.bits.specs.Range.{all}
 use Rattle.rules.specs.Text.{flagsOf}
 use Rattle.text.specs.Digits.{isDigit, sizeOf}
 use Rattle.text.proofs.FlagCount.{flags-some}
 use Rattle.text.proofs.Shown.{shows-eq}
 use Rattle.examination_text.proofs.Input.{table-none, table-ragged, table-rule}
-use borrow.Author.Needs.{needs}
 use Rattle.examination_text.proofs.lines_page.Statement.{statement}
 use Rattle.examination_text.proofs.lines_page.Tie as tie
 

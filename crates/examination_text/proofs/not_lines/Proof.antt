@@ -1,6 +1,6 @@
 -- `examination_text::not_lines` meets its contract: the page of the text. Assumes nothing.
-use Rattle.rules.specs.Ascii.{ascii}
 use borrow.Author.Needs.{needs}
+use Rattle.rules.specs.Ascii.{ascii}
 use Rattle.examination_text.proofs.not_lines.Statement.{statement}
 use Rattle.examination_text.proofs.not_lines.Tie as tie
 

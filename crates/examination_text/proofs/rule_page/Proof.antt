@@ -8,6 +8,7 @@ use native.Mathlib.Omega.{arith}
 use lib.ListN.{length, take, replicate}
 use lib.Seq.{length-take-le}
 use borrow.Author.Tests.{not-true, not-false}
+use borrow.Author.Needs.{needs}
 use Rattle.bits.specs.Range.{all}
 use Rattle.rules.specs.Ascii.{ascii}
 use Rattle.rules.specs.Calls.{examine}
@@ -19,7 +20,6 @@ use Rattle.text.proofs.Shown.{shows-eq}
 use Rattle.examination_text.specs.Notation.{recordTexts, isRecord}
 use Rattle.examination_text.specs.Words.{words}
 use Rattle.examination_text.proofs.Input.{rule-none, rule-verdict}
-use borrow.Author.Needs.{needs}
 use Rattle.examination_text.proofs.rule_page.Statement.{statement}
 use Rattle.examination_text.proofs.rule_page.Tie as tie
 

@@ -5,6 +5,7 @@ use Prim.Native.Nat.{ℕ}
 use native.Mathlib.Omega.{arith}
 use lib.ListN.{length, take}
 use lib.Seq.{length-take-le}
+use borrow.Author.Needs.{needs}
 use Rattle.rules.specs.Ascii.{ascii}
 use Rattle.rules.specs.Calls.{examine}
 use Rattle.rules.specs.Outcome.{Outcome}
@@ -12,7 +13,6 @@ use Rattle.text.proofs.Put.{put-append, put-eq, put-length, put-front}
 use Rattle.text.proofs.Shown.{shows-put}
 use Rattle.examination_text.specs.Notation.{recordTexts}
 use Rattle.examination_text.specs.Words.{words}
-use borrow.Author.Needs.{needs}
 use Rattle.examination_text.proofs.verdict_page.Statement.{statement}
 use Rattle.examination_text.proofs.verdict_page.Tie as tie
 

@@ -1,4 +1,4 @@
--- `rule_text::print_rule` meets its contract: each of its three answers is one law of Line. Assumes nothing.
+-- `rule_text::print_rule` meets its contract: each of its three answers is one law of Printed. Assumes nothing.
 use mathlib.Core.Bool.{true}
 use mathlib.Core.Option.{some}
 use mathlib.Core.Path.{_≡_, sym, ap, _∙_}
@@ -11,8 +11,8 @@ use borrow.Author.Tests.{not-true, not-false}
 use Rattle.rules.specs.Text.{flagsOf, isLine}
 use Rattle.text.specs.Digits.{sizeOf}
 use Rattle.text.proofs.FlagCount.{flags-some}
-use Rattle.rule_text.proofs.Printed.{line-long, line-all, printed-other, printed-ragged, printed-rule}
 use Rattle.text.proofs.Shown.{shows-eq, shows-told}
+use Rattle.rule_text.proofs.Printed.{line-long, line-all, printed-other, printed-ragged, printed-rule}
 use Rattle.rule_text.proofs.print_rule.Statement.{statement}
 use Rattle.rule_text.proofs.print_rule.Tie as tie
 

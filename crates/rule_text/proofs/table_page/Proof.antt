@@ -9,11 +9,11 @@ use lib.Seq.{length-take-le}
 use borrow.Author.Needs.{needs}
 use Rattle.rules.specs.Calls.{compile}
 use Rattle.compiler.specs.declared.Expression.{Expression}
-use Rattle.rule_text.proofs.Compiling.{Answered, never-refused, count-told, printable-told, report-told}
 use Rattle.text.specs.Digits.{values}
 use Rattle.text.proofs.Digits.{length-values, entries-front}
 use Rattle.text.proofs.FlagCount.{flags-most}
 use Rattle.text.proofs.Shown.{shows-eq}
+use Rattle.rule_text.proofs.Compiling.{Answered, never-refused, count-told, printable-told, report-told}
 use Rattle.rule_text.proofs.table_page.Statement.{statement}
 use Rattle.rule_text.proofs.table_page.Tie as tie
 

@@ -6,9 +6,9 @@ use Prim.Native.Nat.{ℕ}
 use native.Mathlib.Omega.{arith}
 use lib.ListN.{getD}
 use borrow.Author.Tests.{not-true, not-false}
+use borrow.Author.Needs.{needs}
 use Rattle.examination_text.specs.Notation.{isCapital}
 use Rattle.examination_text.proofs.Records.{record-short, record-long, record-first, record-second, record-two, record-three}
-use borrow.Author.Needs.{needs}
 use Rattle.examination_text.proofs.notation.is_record.Statement.{statement}
 use Rattle.examination_text.proofs.notation.is_record.Tie as tie
 

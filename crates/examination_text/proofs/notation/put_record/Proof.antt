@@ -5,10 +5,10 @@ use Prim.Native.Nat.{_-_, _≤_}
 use native.Mathlib.Omega.{arith}
 use lib.ListN.{length, getD, take}
 use lib.Seq.{length-take-le}
+use borrow.Author.Needs.{needs}
 use Rattle.text.specs.Put.{Room}
 use Rattle.text.proofs.Put.{put-append, put-eq, room-eq, room-next}
 use Rattle.examination_text.proofs.Records.{record-size, record-digit, bytes-two, bytes-three, length-bytes}
-use borrow.Author.Needs.{needs}
 use Rattle.examination_text.proofs.notation.put_record.Statement.{statement}
 use Rattle.examination_text.proofs.notation.put_record.Tie as tie
 

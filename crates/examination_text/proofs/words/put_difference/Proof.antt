@@ -2,12 +2,12 @@
 use mathlib.Core.List.{List, _++_}
 use Prim.Native.Nat.{ℕ, _+_, _≤_}
 use native.Mathlib.Omega.{arith}
+use borrow.Author.Needs.{needs}
 use Rattle.rules.specs.Ascii.{ascii}
 use Rattle.rules.specs.Text.{decimal}
 use Rattle.text.proofs.Decimal.{room-number, number-short}
 use Rattle.text.proofs.Put.{put-append, put-length}
 use Rattle.examination_text.specs.Words.{difference}
-use borrow.Author.Needs.{needs}
 use Rattle.examination_text.proofs.words.put_difference.Statement.{statement}
 use Rattle.examination_text.proofs.words.put_difference.Tie as tie
 

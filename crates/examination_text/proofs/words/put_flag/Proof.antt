@@ -1,11 +1,11 @@
 -- `examination_text::words::put_flag` meets its contract: nothing, or a space and the flag (Flags). Assumes nothing.
 use mathlib.Core.Path.{sym}
 use native.Mathlib.Omega.{arith}
+use borrow.Author.Needs.{needs}
 use Rattle.rules.specs.Ascii.{ascii}
 use Rattle.text.proofs.Decimal.{length-decimal}
 use Rattle.text.proofs.Put.{put-none, put-eq}
 use Rattle.examination_text.proofs.Flags.{flag-none, flag-some}
-use borrow.Author.Needs.{needs}
 use Rattle.examination_text.proofs.words.put_flag.Statement.{statement}
 use Rattle.examination_text.proofs.words.put_flag.Tie as tie
 

@@ -2,12 +2,12 @@
 use mathlib.Core.Path.{sym, subst}
 use Prim.Native.Nat.{ℕ}
 use native.Mathlib.Omega.{arith}
+use borrow.Author.Needs.{needs}
 use Rattle.bits.specs.Word.{places}
 use Rattle.rules.specs.Ascii.{ascii}
 use Rattle.text.specs.Put.{Put}
 use Rattle.text.proofs.Put.{put-append, put-eq}
 use Rattle.examination_text.proofs.Flags.{names-none, names-some}
-use borrow.Author.Needs.{needs}
 use Rattle.examination_text.proofs.words.put_flag_names.Statement.{statement}
 use Rattle.examination_text.proofs.words.put_flag_names.Tie as tie
 

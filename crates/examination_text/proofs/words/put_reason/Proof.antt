@@ -3,6 +3,7 @@ use mathlib.Core.List.{List, _++_}
 use mathlib.Core.Path.{_≡_, sym, ap, _∙_}
 use Prim.Native.Nat.{ℕ}
 use native.Mathlib.Omega.{arith}
+use borrow.Author.Needs.{needs}
 use Rattle.rules.specs.Ascii.{ascii}
 use Rattle.rules.specs.Text.{decimal}
 use Rattle.text.proofs.Decimal.{room-number}
@@ -10,7 +11,6 @@ use Rattle.text.proofs.Put.{put-eq}
 use Rattle.examination_text.specs.Notation.{recordTexts, recordOf}
 use Rattle.examination_text.specs.Words.{aboveRaw, reason}
 use Rattle.examination_text.proofs.Reasons.{reason-mark, reason-payload, reason-operands, reason-records, reason-end, reason-differs, reason-costly}
-use borrow.Author.Needs.{needs}
 use Rattle.examination_text.proofs.words.put_reason.Statement.{statement}
 use Rattle.examination_text.proofs.words.put_reason.Tie as tie
 

@@ -3,6 +3,7 @@ use mathlib.Core.List.{List}
 use mathlib.Core.Path.{_≡_, sym, ap}
 use Prim.Native.Nat.{ℕ}
 use native.Mathlib.Omega.{arith}
+use borrow.Author.Needs.{needs}
 use Rattle.rules.specs.Ascii.{ascii}
 use Rattle.examiner.specs.Answer.{examinationOf}
 use Rattle.examiner.specs.declared.Examination.{Examination}
@@ -10,7 +11,6 @@ use Rattle.text.proofs.Decimal.{room-number}
 use Rattle.text.proofs.Put.{put-eq}
 use Rattle.examination_text.specs.Notation.{recordTexts}
 use Rattle.examination_text.specs.Words.{words}
-use borrow.Author.Needs.{needs}
 use Rattle.examination_text.proofs.words.put_verdict.Statement.{statement}
 use Rattle.examination_text.proofs.words.put_verdict.Tie as tie
 

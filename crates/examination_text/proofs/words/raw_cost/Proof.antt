@@ -1,8 +1,8 @@
 -- `examination_text::words::raw_cost` meets its contract: the word has the masks of the table's form (anf_transform, TableForm). Assumes nothing.
 use mathlib.Core.Path.{ap, _∙_}
+use borrow.Author.Needs.{needs}
 use Rattle.rules.specs.Form.{rawCost}
 use Rattle.anf_transform.proofs.TableForm.{table-form}
-use borrow.Author.Needs.{needs}
 use Rattle.examination_text.proofs.words.raw_cost.Statement.{statement}
 use Rattle.examination_text.proofs.words.raw_cost.Tie as tie
 

@@ -4,9 +4,9 @@ use Prim.Native.Nat.{ℕ}
 use borrow.Author.Needs.{needs}
 use Rattle.rules.specs.Ascii.{ascii}
 use Rattle.rules.specs.Text.{decimal}
-use Rattle.rule_text.specs.Parts.{firstLine}
 use Rattle.text.specs.Put.{Room}
 use Rattle.text.proofs.Put.{put-append, room-first, room-next}
+use Rattle.rule_text.specs.Parts.{firstLine}
 use Rattle.rule_text.proofs.lines.put_flags.Statement.{statement}
 use Rattle.rule_text.proofs.lines.put_flags.Tie as tie
 

@@ -2,8 +2,8 @@
 use mathlib.Core.Path.{sym}
 use native.Mathlib.Omega.{arith}
 use borrow.Author.Needs.{needs}
-use Rattle.rule_text.proofs.Left.{gap-none, gap-some}
 use Rattle.text.proofs.Put.{put-none, put-eq, room-eq}
+use Rattle.rule_text.proofs.Left.{gap-none, gap-some}
 use Rattle.rule_text.proofs.lines.put_gap.Statement.{statement}
 use Rattle.rule_text.proofs.lines.put_gap.Tie as tie
 

@@ -7,9 +7,9 @@ use lib.Dec.{eqb}
 use mir.Val.{boolByte}
 use borrow.Author.Needs.{needs}
 use Rattle.expr.specs.Answers.{kindOf}
+use Rattle.text.proofs.Put.{put-eq, room-eq}
 use Rattle.rule_text.specs.Parts.{kindText}
 use Rattle.rule_text.proofs.KindText.{text-constant, text-variable, text-and, text-or, text-xor, text-not, constant-small, variable-small}
-use Rattle.text.proofs.Put.{put-eq, room-eq}
 use Rattle.rule_text.proofs.lines.put_kind.Statement.{statement}
 use Rattle.rule_text.proofs.lines.put_kind.Tie as tie
 

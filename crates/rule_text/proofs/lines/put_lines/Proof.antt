@@ -4,9 +4,9 @@ use Prim.Native.Nat.{ℕ}
 use native.Mathlib.Omega.{arith}
 use borrow.Author.Needs.{needs}
 use Rattle.rules.specs.Machine.{made}
-use Rattle.rule_text.specs.Parts.{shown, firstLine, lastLine, lines}
 use Rattle.text.specs.Put.{Room}
 use Rattle.text.proofs.Put.{put-append, room-first, room-next}
+use Rattle.rule_text.specs.Parts.{shown, firstLine, lastLine, lines}
 use Rattle.rule_text.proofs.Report.{length-lines}
 use Rattle.rule_text.proofs.lines.put_lines.Statement.{statement}
 use Rattle.rule_text.proofs.lines.put_lines.Tie as tie

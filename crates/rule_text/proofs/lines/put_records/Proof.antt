@@ -4,16 +4,15 @@ use mathlib.Core.Path.{sym, ap, _∙_}
 use Prim.Native.Nat.{_-_}
 use native.Mathlib.Omega.{arith}
 use lib.ListN.{length}
-use denote.Ref.{now}
 use borrow.Author.Needs.{needs}
 use Rattle.bits.proofs.Below.{getD-below}
 use Rattle.rules.specs.Machine.{made}
 use Rattle.rules.specs.Record.{Found}
 use Rattle.expr.specs.Answers.{readingOf, kindOf}
 use Rattle.expr.proofs.Reader.{Read, read-found, read-index}
+use Rattle.text.proofs.Put.{put-length}
 use Rattle.rule_text.specs.Parts.{shown}
 use Rattle.rule_text.proofs.Left.{Left, Next, left-start, left-next, left-found, left-end, left-gap, left-kind, left-step}
-use Rattle.text.proofs.Put.{put-length}
 use Rattle.rule_text.proofs.lines.put_records.Statement.{statement}
 use Rattle.rule_text.proofs.lines.put_records.Tie as tie
 
