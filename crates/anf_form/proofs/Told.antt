@@ -5,16 +5,16 @@
 --   Passed n k ws                == no row refuses the coefficients, and k words are needed
 --   masks-below, masks-count     == the masks that they hold: below 2^n, and the monomials and the constant together
 --   told-short, told-listing     == the buffer is too short for the monomials, or holds them
-use mathlib.Core.Bool.{Bool, true, false}
+use mathlib.Core.Bool.{Bool, false}
 use mathlib.Core.List.{List}
-use mathlib.Core.Path.{_≡_, refl, sym, ap, ap₂, _∙_}
+use mathlib.Core.Path.{_≡_, sym, ap, ap₂, _∙_}
 use Prim.Native.Nat.{ℕ, _+_, _^_, _≤_, _<_}
 use native.Mathlib.Omega.{arith}
-use lib.Dec.{eqb}
 use lib.ListN.{length}
 use lib.Seq.{sets}
 use Rattle.bits.specs.Bit.{digit}
 use Rattle.bits.specs.Range.{Below}
+use Rattle.bits.proofs.Bit.{digit-is}
 use Rattle.rules.specs.Calls as paper
 use Rattle.rules.specs.Coefficient.{wordCount, packed, stray}
 use Rattle.rules.specs.Limits.{formFlags, shortOutput}
@@ -40,10 +40,6 @@ placed out o = left out (o then (λ l. gives (l .masks)))
 
 pub told-refusal : (n : ℕ) (ws out : List ℕ) (k p : ℕ) → paper.listing n ws (length out) ≡ refuses k p → Told n ws out out (Refused record { number = k; place = p })
 told-refusal n ws out k p e = (sym e, ap (placed out) (sym e))
-
-digit-one : (b : Bool) → eqb (digit b) 1 ≡ b
-digit-one true = refl
-digit-one false = refl
 
 -- past the rows of the coefficients, with k words
 pub record Passed (n k : ℕ) (ws : List ℕ) : Type 0 where
@@ -88,7 +84,7 @@ module _ (n k : ℕ) (ws : List ℕ) (p : Passed n k ws) where
       unfolding paper.listed
       told-listing d after b h w =
           let given = past ∙ room-enough (length out) masks _ (omega (arith, counted)) in
-          let flag = ap (λ (x : ℕ). eqb x 1) b ∙ digit-one (packed ws 0) ∙ sym constant-is in
+          let flag = digit-is (packed ws 0) _ b ∙ sym constant-is in
           let listed = ap₂ front counted w ∙ front-written masks out (omega (arith, counted)) in (
             ap₂ {C = Outcome paper.Listing} (λ (q : Bool) (l : List ℕ). gives record { constant = q; masks = l }) flag listed ∙ sym given,
             w ∙ ap (placed out) (sym given),

@@ -1,6 +1,6 @@
 -- Laws of a number's bits: what the operations on numbers do to each bit, and numbers that agree bit by bit.
 -- It rests on lib.Bits and lib.Pow, the library's laws of digits and powers of two. Assumes nothing.
---   digit-le, digit-eqb                      == a digit is 1 at most; a number below 2 is its own digit
+--   digit-le, digit-eqb, digit-is            == a digit is 1 at most; a number below 2 is its own digit; a truth value from its digit
 --   digit-bit, bit-first, bit-suc            == a bit by division: w / 2 ^ i % 2, the lowest bit, and the bits of the half
 --   bit-and, bit-or, bit-xor, bit-not        == the operations work on each bit apart
 --   bit-shr, bit-shl, bit-shl-low            == shifts
@@ -30,6 +30,10 @@ pub digit-eqb : (d : ℕ) → d < 2 → digit (eqb d 1) ≡ d
 digit-eqb zero h = refl
 digit-eqb (suc zero) h = refl
 digit-eqb (suc (suc d)) h = absurd (omega arith)
+
+pub digit-is : (b : Bool) (d : ℕ) → d ≡ digit b → eqb d 1 ≡ b
+digit-is true d e = ap (λ (x : ℕ). eqb x 1) e
+digit-is false d e = ap (λ (x : ℕ). eqb x 1) e
 
 pub digit-bit : (w i : ℕ) → digit (bit w i) ≡ w / 2 ^ i % 2
 unfolding bit

@@ -12,8 +12,8 @@
 --   ones-add, ones-sub, ones-or                          == sizes add, and a union has no more members than its parts together
 --   ones-zero, ones-pos, ones-pow, one-is-pow            == sizes 0 and 1
 use mathlib.Core.Path.{_≡_, refl, sym, ap, ap₂, _∙_}
-use mathlib.Core.Bool.{Bool, true, false, not, _&&_, _||_, false≢true}
-use mathlib.Core.Logic.{_⊎_, inl, inr}
+use mathlib.Core.Bool.{Bool, true, false, not, _&&_, _||_, and-comm as &&-comm, false≢true}
+use mathlib.Core.Logic.{_⊎_, inl, inr, ⊎-elim}
 use mathlib.Mathlib.Data.Bool.Basic.{eq-false-of-not-eq-true}
 use Prim.Native.Nat.{ℕ, suc, _+_, _-_, _*_, _/_, _%_, _^_, _≤_, _<_}
 use native.Mathlib.Nat.{le-antisymm, lt-of-le-of-lt, eq-zero-or-pos, zero-add, add-zero, zero-mul, one-mul, pow-suc}
@@ -24,8 +24,8 @@ use lib.Bits.{bitAnd, bitOr, bitXor, and-self, and-comm, and-le-l, and-le-r, and
 use lib.Count.{ones, ones-step, ones-cat}
 use lib.Pow.{pow-pos, high, low}
 use borrow.Author.Tests.{eqb-true, eq-eqb}
-use Rattle.bits.specs.Bit.{bit, digit, within, _⊕_}
-use Rattle.bits.proofs.Truth.{and-intro, and-true-l, and-true-r, bool-ext}
+use Rattle.bits.specs.Bit.{bit, digit, within}
+use Rattle.bits.proofs.Truth.{and-intro, and-true-l, and-true-r, and-implied, and-minus, or-intro-l, or-intro-r, or-split, xor-minus, bool-ext}
 use Rattle.bits.proofs.Bit.{bit-and, bit-or, bit-xor, bit-zero, bit-pow, bits-eq}
 
 -- ---- inclusion by members
@@ -37,13 +37,9 @@ meet s m h = eqb-true (bitAnd s m) s h
 pub within-bit : (s m i : ℕ) → within s m ≡ true → bit s i ≡ true → bit m i ≡ true
 within-bit s m i h e = and-true-r (bit s i) (bit m i) (sym (bit-and s m i) ∙ ap (λ (x : ℕ). bit x i) (meet s m h) ∙ e)
 
-absorb : (p q : Bool) → (p ≡ true → q ≡ true) → (p && q) ≡ p
-absorb true q f = f refl
-absorb false q f = refl
-
 pub bits-within : (s m : ℕ) → ((i : ℕ) → bit s i ≡ true → bit m i ≡ true) → within s m ≡ true
 unfolding within
-bits-within s m f = eq-eqb (bitAnd s m) s (bits-eq (bitAnd s m) s (λ i. bit-and s m i ∙ absorb (bit s i) (bit m i) (f i)))
+bits-within s m f = eq-eqb (bitAnd s m) s (bits-eq (bitAnd s m) s (λ i. bit-and s m i ∙ &&-comm (bit s i) (bit m i) ∙ and-implied (bit m i) (bit s i) (f i)))
 
 pub within-le : (s m : ℕ) → within s m ≡ true → s ≤ m
 within-le s m h = omega (arith, meet s m h, and-le-r s m)
@@ -109,24 +105,12 @@ module _ (k m : ℕ) where
       go true e = meet (2 ^ k) m (within-pow ∙ e) ∙ sym (one-mul (2 ^ k))
       go false e = bits-eq (bitAnd (2 ^ k) m) 0 (λ i. bit-and (2 ^ k) m i ∙ out e i ∙ sym (bit-zero i)) ∙ sym (zero-mul (2 ^ k))
 
-or-left : (p q : Bool) → p ≡ true → (p || q) ≡ true
-or-left true q e = refl
-or-left false q e = absurd (false≢true e)
-
-or-right : (p q : Bool) → q ≡ true → (p || q) ≡ true
-or-right true q e = refl
-or-right false q e = e
-
-or-cases : (p q r : Bool) → (p ≡ true → r ≡ true) → (q ≡ true → r ≡ true) → (p || q) ≡ true → r ≡ true
-or-cases true q r f g e = f refl
-or-cases false q r f g e = g e
-
 module _ (a b : ℕ) where
   pub within-or-l : within a (bitOr a b) ≡ true
-  within-or-l = bits-within a (bitOr a b) (λ i e. bit-or a b i ∙ or-left (bit a i) (bit b i) e)
+  within-or-l = bits-within a (bitOr a b) (λ i e. bit-or a b i ∙ or-intro-l (bit a i) (bit b i) e)
 
   pub within-or-r : within b (bitOr a b) ≡ true
-  within-or-r = bits-within b (bitOr a b) (λ i e. bit-or a b i ∙ or-right (bit a i) (bit b i) e)
+  within-or-r = bits-within b (bitOr a b) (λ i e. bit-or a b i ∙ or-intro-r (bit a i) (bit b i) e)
 
   pub within-and-l : within (bitAnd a b) a ≡ true
   within-and-l = bits-within (bitAnd a b) a (λ i e. and-true-l (bit a i) (bit b i) (sym (bit-and a b i) ∙ e))
@@ -144,7 +128,7 @@ within-or a b m = bool-ext _ _ apart together
     together h =
         let f = and-true-l (within a m) (within b m) h in
         let g = and-true-r (within a m) (within b m) h in
-        bits-within (bitOr a b) m (λ i e. or-cases (bit a i) (bit b i) (bit m i) (within-bit a m i f) (within-bit b m i g) (sym (bit-or a b i) ∙ e))
+        bits-within (bitOr a b) m (λ i e. ⊎-elim (within-bit a m i f) (within-bit b m i g) (or-split (bit a i) (bit b i) (sym (bit-or a b i) ∙ e)))
 
 pub within-and : (s a b : ℕ) → within s (bitAnd a b) ≡ (within s a && within s b)
 within-and s a b = bool-ext _ _ apart together
@@ -161,24 +145,13 @@ within-and s a b = bool-ext _ _ apart together
 pub sub-xor : (c m : ℕ) → within c m ≡ true → m - c ≡ bitXor m c
 sub-xor c m h = omega (arith, xor-add-and m c, and-comm m c, meet c m h, within-le c m h)
 
-minus : (p q : Bool) → (q ≡ true → p ≡ true) → p ⊕ q ≡ (p && not q)
-minus true q f = refl
-minus false true f = sym (f refl)
-minus false false f = refl
-
 pub bit-sub : (c m i : ℕ) → within c m ≡ true → bit (m - c) i ≡ (bit m i && not (bit c i))
-bit-sub c m i h = ap (λ (x : ℕ). bit x i) (sub-xor c m h) ∙ bit-xor m c i ∙ minus (bit m i) (bit c i) (within-bit c m i h)
-
-apart : (p q : Bool) → (q && (p && not q)) ≡ false
-apart true true = refl
-apart true false = refl
-apart false true = refl
-apart false false = refl
+bit-sub c m i h = ap (λ (x : ℕ). bit x i) (sub-xor c m h) ∙ bit-xor m c i ∙ xor-minus (bit m i) (bit c i) (within-bit c m i h)
 
 pub sub-disjoint : (c m : ℕ) → within c m ≡ true → bitAnd c (m - c) ≡ 0
 sub-disjoint c m h =
     bits-eq (bitAnd c (m - c)) 0
-    (λ i. bit-and c (m - c) i ∙ ap (λ (x : Bool). bit c i && x) (bit-sub c m i h) ∙ apart (bit m i) (bit c i) ∙ sym (bit-zero i))
+    (λ i. bit-and c (m - c) i ∙ ap (λ (x : Bool). bit c i && x) (bit-sub c m i h) ∙ and-minus (bit m i) (bit c i) ∙ sym (bit-zero i))
 
 pub bit-add : (a b i : ℕ) → bitAnd a b ≡ 0 → bit (a + b) i ≡ (bit a i || bit b i)
 bit-add a b i e = ap (λ (x : ℕ). bit x i) (sym (or-disjoint a b e)) ∙ bit-or a b i

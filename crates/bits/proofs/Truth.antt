@@ -1,10 +1,12 @@
 -- Laws of truth values: exclusive or beside `&&`, and what a true conjunction tells. It rests on the two constructors alone. Assumes nothing.
 --   xor-assoc, xor-comm, xor-false, xor-self            == ⊕ regroups, commutes, has the unit false, and each value undoes itself
 --   xor-cancel, xor-same                                == a ⊕ (a ⊕ b) is b; a ⊕ b is false only of equals
+--   xor-other, other-xor, xor-minus                     == a ⊕ b is true only of unlike values; a without a part b of it
 --   and-intro, and-true-l, and-true-r, or-split         == a conjunction is true where both sides are, a disjunction where one is
---   and-implied                                         == a conjunct that the other implies
+--   or-intro-l, or-intro-r                              == a disjunction is true where a side is
+--   and-implied, and-minus                              == a conjunct that the other implies; b and what is left of a without b
 --   decide, bool-ext                                    == a value is true or false; two values true together are equal
-use mathlib.Core.Bool.{Bool, true, false, _&&_, _||_, and-false}
+use mathlib.Core.Bool.{Bool, true, false, not, _&&_, _||_, and-false, false≢true}
 use mathlib.Core.Logic.{_⊎_, inl, inr}
 use mathlib.Core.Path.{_≡_, refl, sym, ap}
 use Rattle.bits.specs.Bit.{_⊕_}
@@ -38,6 +40,20 @@ xor-same true true e = refl
 xor-same true false e = e
 xor-same false b e = sym e
 
+pub xor-minus : (a b : Bool) → (b ≡ true → a ≡ true) → a ⊕ b ≡ (a && not b)
+xor-minus true b f = refl
+xor-minus false true f = sym (f refl)
+xor-minus false false f = refl
+
+pub xor-other : (a b : Bool) → a ⊕ b ≡ true → a ≡ not b
+xor-other true b e = sym e
+xor-other false b e = sym (ap not e)
+
+pub other-xor : (a b : Bool) → a ≡ not b → a ⊕ b ≡ true
+other-xor true b e = sym e
+other-xor false true e = refl
+other-xor false false e = e
+
 pub and-intro : (a b : Bool) → a ≡ true → b ≡ true → (a && b) ≡ true
 and-intro true b p q = q
 and-intro false b p q = p
@@ -54,6 +70,20 @@ and-true-r false false e = e
 pub and-implied : (a b : Bool) → (b ≡ true → a ≡ true) → (a && b) ≡ b
 and-implied a true h = ap (λ (c : Bool). c && true) (h refl)
 and-implied a false h = and-false a
+
+pub and-minus : (a b : Bool) → (b && (a && not b)) ≡ false
+and-minus true true = refl
+and-minus true false = refl
+and-minus false true = refl
+and-minus false false = refl
+
+pub or-intro-l : (a b : Bool) → a ≡ true → (a || b) ≡ true
+or-intro-l true b e = refl
+or-intro-l false b e = absurd (false≢true e)
+
+pub or-intro-r : (a b : Bool) → b ≡ true → (a || b) ≡ true
+or-intro-r true b e = refl
+or-intro-r false b e = e
 
 pub or-split : (a b : Bool) → (a || b) ≡ true → (a ≡ true) ⊎ (b ≡ true)
 or-split true b e = inl refl

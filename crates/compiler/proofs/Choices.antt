@@ -1,6 +1,6 @@
 -- Choices and the trees that they make: a choice that is meant makes the cleaned form, and the choices that leave no form to clean make it of the numbers
 -- that the code has in hand. It rests on the rules' equations and on plans (anf_cleanup, Rules and Plans) and on written trees (postfix, Writes). Assumes nothing.
---   digit-is, constant-small                   == a truth value from its digit; a form's constant as a digit is 0 or 1
+--   constant-small                             == a form's constant as a digit is 0 or 1
 --   meant-due, meant-parts, meant-writes       == what a choice that is meant needs and writes, from what the cleaned form needs and writes
 --   planned-meant, part-meant                  == the choice of a plan is meant, and so is one that is right, with its parts left open
 --   constant-tree, family-tree                 == no monomials, and rule 1
@@ -20,7 +20,7 @@ use borrow.Author.Tests.{eqb-true, eqb-false}
 use Rattle.bits.specs.Bit.{bit, digit}
 use Rattle.bits.specs.Range.{upto}
 use Rattle.bits.specs.Word.{places}
-use Rattle.bits.proofs.Bit.{digit-le}
+use Rattle.bits.proofs.Bit.{digit-le, digit-is}
 use Rattle.bits.proofs.Range.{length-from, length-keep}
 use Rattle.rules.specs.Cleanup.{cleanup, atop, singles, absorption}
 use Rattle.rules.specs.Form.{cube, orChain}
@@ -37,10 +37,6 @@ use Rattle.postfix.specs.Written.{Room, Writes}
 use Rattle.postfix.specs.declared.Cursor.{Cursor}
 use Rattle.postfix.proofs.Writes.{room-of, writes-of}
 use Rattle.compiler.specs.Emitted.{Meant, Due}
-
-pub digit-is : (b : Bool) (d : ℕ) → d ≡ digit b → eqb d 1 ≡ b
-digit-is true d e = ap (λ (x : ℕ). eqb x 1) e
-digit-is false d e = ap (λ (x : ℕ). eqb x 1) e
 
 -- ---- a choice that is right for its form
 

@@ -16,7 +16,7 @@ use lib.Dec.{ltb}
 use borrow.Author.Tests.{ltb-false, not-false, lt-ltb, le-ltb}
 use Rattle.bits.specs.Bit.{_⊕_}
 use Rattle.bits.proofs.First.{keep-empty, empty-keep, first-keep, keep-first}
-use Rattle.bits.proofs.Truth.{xor-same, xor-self}
+use Rattle.bits.proofs.Truth.{xor-same, xor-self, xor-other, other-xor}
 use Rattle.rules.specs.Calls.{withTable, tableForm, differences, judged, examine}
 use Rattle.rules.specs.Form.{rawCost}
 use Rattle.rules.specs.Limits.{ruleFlags, differs, tooCostly}
@@ -42,15 +42,6 @@ pub record FirstDifference (n : ℕ) (table : List ℕ) (t : Tree) (at : ℕ) : 
 
 -- ---- the comparison
 
-xor-apart : (a b : Bool) → a ⊕ b ≡ true → a ≡ not b
-xor-apart true b e = sym e
-xor-apart false b e = sym (ap not e)
-
-apart-xor : (a b : Bool) → a ≡ not b → a ⊕ b ≡ true
-apart-xor true b e = sym e
-apart-xor false true e = refl
-apart-xor false false e = e
-
 module _ (n : ℕ) (table : List ℕ) (t : Tree) where
   unlike : ℕ → Bool
   unlike at = value t at ⊕ entry table at
@@ -73,7 +64,7 @@ module _ (n : ℕ) (table : List ℕ) (t : Tree) where
       let f = first-keep unlike (2 ^ n) at l e in
       record {
         setting = f .below;
-        apart = xor-apart (value t at) (entry table at) (f .passes);
+        apart = xor-other (value t at) (entry table at) (f .passes);
         before = λ b h. xor-same (value t b) (entry table b) (f .before b h);
       }
 
@@ -81,7 +72,7 @@ module _ (n : ℕ) (table : List ℕ) (t : Tree) where
   unfolding differences unlike
   first-differences at d = keep-first unlike (2 ^ n) at record {
     below = d .setting;
-    passes = apart-xor (value t at) (entry table at) (d .apart);
+    passes = other-xor (value t at) (entry table at) (d .apart);
     before = λ b h. agree-unlike b (d .before b h);
   }
 

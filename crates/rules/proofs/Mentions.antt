@@ -2,10 +2,10 @@
 -- passes to joined trees; "every flag is below n" is the case in use. Rule by rule, for any choice that a rule allows. It rests on the cases of a turn
 -- (Turn), the induction over parts (Parts), the parts of a form (Covered) and the laws of bits and lists (bits). Assumes nothing.
 --   Closed Q P                                 == P holds of constants and of flags that pass Q, and passes to joined trees
---   Flags Q l                                  == every flag of every mask of l passes Q
+--   Within Q m, Flags Q l                      == every flag of m passes Q; every flag of every mask of l does
 --   closed-cube, closed-orChain, closed-folded == then P holds of chains of such flags, and of balanced folds of such trees
 --   closed-rawForm, closed-turn, closed-cleanup == of the raw form, of one turn and of the cleaned form
---   flags-cleanup                              == the same of "every flag is below n" and of masks below 2^n
+--   flags-closed, flags-cleanup                == the same of "every flag is below n" and of masks below 2^n
 use mathlib.Core.Bool.{Bool, true, false, not}
 use mathlib.Core.List.{List, [], _∷_, map}
 use mathlib.Core.Path.{_≡_, sym, ap, subst, _∙_}

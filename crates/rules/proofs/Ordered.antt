@@ -20,7 +20,7 @@ use lib.ListN.{length}
 use borrow.Author.Tests.{ltb-true, ltb-false, lt-ltb, eqb-true, eq-eqb}
 use Rattle.bits.specs.Range.{any, mem, Ascending}
 use Rattle.bits.specs.Sum.{sum}
-use Rattle.bits.proofs.Truth.{and-intro, and-true-l, and-true-r, or-split, decide}
+use Rattle.bits.proofs.Truth.{or-intro-r, and-intro, and-true-l, and-true-r, or-split, decide}
 use Rattle.bits.proofs.Range.{mem-head, mem-tail, mem-cons}
 use Rattle.bits.proofs.Ascending.{ascending-tail, after-mem}
 use Rattle.bits.proofs.Rising.{rising-ext}
@@ -73,11 +73,7 @@ module _ (a b : ℕ) where
 
   pub precedes-equal : ones a ≡ ones b → a < b → precedes a b ≡ true
   unfolding precedes
-  precedes-equal e h = go (ltb (ones a) (ones b)) (and-intro _ _ (eq-eqb (ones a) (ones b) e) (lt-ltb a b h))
-    where
-      go : (c : Bool) → (eqb (ones a) (ones b) && ltb a b) ≡ true → (c || eqb (ones a) (ones b) && ltb a b) ≡ true
-      go true t = refl
-      go false t = t
+  precedes-equal e h = or-intro-r (ltb (ones a) (ones b)) _ (and-intro _ _ (eq-eqb (ones a) (ones b) e) (lt-ltb a b h))
 
   pub precedes-true : precedes a b ≡ true → (ones a < ones b) ⊎ ((ones a ≡ ones b) × (a < b))
   unfolding precedes
