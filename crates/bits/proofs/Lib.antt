@@ -6,6 +6,7 @@ pub mod Range
 pub mod Rising
 pub mod Ascending
 pub mod Sum
+pub mod FlagWords
 pub mod Fixed
 pub mod Lowest
 pub mod Word

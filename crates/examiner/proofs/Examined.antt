@@ -34,7 +34,7 @@ use Rattle.rules.specs.Outcome.{Outcome, gives, refuses, _then_}
 use Rattle.rules.specs.Table.{settings, entry}
 use Rattle.rules.specs.Tree.{Tree, value, cost}
 use Rattle.rules.proofs.Mobius.{coefficient-ext}
-use Rattle.anf_form.proofs.Flags.{flagWords}
+use Rattle.bits.proofs.FlagWords.{flagWords}
 use Rattle.examiner.specs.Examined.{verdict, judgment, examineBits}
 use Rattle.examiner.specs.Lanes.{seen}
 use Rattle.examiner.proofs.Settings.{bit-values}

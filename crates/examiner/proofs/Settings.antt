@@ -1,4 +1,4 @@
--- With the words of the six flags the lanes are the settings themselves. It rests on those words (anf_form, Flags) and on the laws of lanes (InLanes).
+-- With the words of the six flags the lanes are the settings themselves. It rests on those words (bits, FlagWords) and on the laws of lanes (InLanes).
 -- Assumes nothing.
 --   lane-setting         == lane j is setting j
 --   bit-values           == so a tree's lanes are its values
@@ -8,8 +8,8 @@ use native.Mathlib.Nat.{lt-of-lt-of-le}
 use lib.Pow.{pow-mono}
 use Rattle.bits.specs.Bit.{bit}
 use Rattle.bits.proofs.Bit.{bit-ext}
+use Rattle.bits.proofs.FlagWords.{flagWords, flagWord, bit-flagWord}
 use Rattle.rules.specs.Tree.{Tree, value}
-use Rattle.anf_form.proofs.Flags.{flagWords, flagWord, bit-flagWord}
 use Rattle.examiner.specs.Lanes.{lane, lanes}
 use Rattle.examiner.proofs.InLanes.{bit-lane, lane-lt, bit-lanes}
 

@@ -1,13 +1,10 @@
 -- The flags of a form of six flags, read off its word: those that occur, and those that occur as single-flag monomials.
--- The words of the masks that have a flag are right by one computed test over their 384 bits. It rests on the laws of words and of unions (bits, Sets and
--- Union). Assumes nothing.
---   flagWord i, bit-flagWord == the word whose bit m is bit i of m, for i below 6 and m below 64
+-- It rests on the six flags' words and on the laws of words and of unions (bits, FlagWords, Sets and Union). Assumes nothing.
 --   made k d                 == the number whose digits below k are d
 --   made-six, made-bits      == all six as one sum; a mask of six flags is made of its bits
 --   flags-made, singles-made == the flags that occur, and the single flags
 --   singles-lt               == the single flags are flags below six
-use mathlib.Core.Bool.{Bool, true, not}
-use mathlib.Core.List.{[], _∷_}
+use mathlib.Core.Bool.{Bool}
 use mathlib.Core.Path.{_≡_, refl, sym, ap, ap₂, _∙_}
 use Prim.Native.Nat.{ℕ, zero, suc, _+_, _*_, _/_, _%_, _^_, _<_}
 use native.Mathlib.Nat.{mod-eq-of-lt}
@@ -15,37 +12,18 @@ use native.Mathlib.Omega.{arith}
 use lib.Bits.{bitAnd}
 use lib.Count.{ones}
 use lib.Dec.{eqb, ltb}
-use lib.ListN.{getD}
-use borrow.Author.Tests.{lt-ltb, not-true}
-use Rattle.bits.specs.Bit.{bit, digit, _⊕_}
-use Rattle.bits.specs.Range.{from, upto, keep, all}
+use Rattle.bits.specs.Bit.{bit, digit}
+use Rattle.bits.specs.Range.{keep}
 use Rattle.bits.specs.Sum.{union}
 use Rattle.bits.specs.Word.{places}
-use Rattle.bits.proofs.Truth.{xor-same}
 use Rattle.bits.proofs.Bit.{digit-bit, mod-pow-suc}
-use Rattle.bits.proofs.Range.{all-mem, any-ext, mem-upto}
+use Rattle.bits.proofs.FlagWords.{flagWord, bit-flagWord}
+use Rattle.bits.proofs.Range.{any-ext}
 use Rattle.bits.proofs.Ascending.{below-mem, below-keep}
 use Rattle.bits.proofs.Sets.{any-bit, mem-bit}
-use Rattle.bits.proofs.Union.{bit-union}
-use Rattle.bits.proofs.Union.{union-lt, bit-union-singles}
+use Rattle.bits.proofs.Union.{bit-union, union-lt, bit-union-singles}
 use Rattle.bits.proofs.Word.{below-places}
 use Rattle.rules.specs.Cleanup.{singles}
-
-unfoldable pub flagWord : ℕ → ℕ
-flagWord i =
-    getD
-    (0xaaaa_aaaa_aaaa_aaaa ∷ 0xcccc_cccc_cccc_cccc ∷ 0xf0f0_f0f0_f0f0_f0f0 ∷ 0xff00_ff00_ff00_ff00 ∷ 0xffff_0000_ffff_0000 ∷ 0xffff_ffff_0000_0000 ∷ [])
-    i 0
-
-flags-right : all (λ i. all (λ m. not (bit (flagWord i) m ⊕ bit m i)) (upto 64)) (upto 6) ≡ true
-unfolding flagWord all from bit
-flags-right = refl
-
-pub bit-flagWord : (i m : ℕ) → i < 6 → m < 64 → bit (flagWord i) m ≡ bit m i
-bit-flagWord i m h l =
-    let row = all-mem (λ i. all (λ m. not (bit (flagWord i) m ⊕ bit m i)) (upto 64)) (upto 6) i flags-right (mem-upto 6 i ∙ lt-ltb i 6 h) in
-    let cell = all-mem (λ m. not (bit (flagWord i) m ⊕ bit m i)) (upto 64) m row (mem-upto 64 m ∙ lt-ltb m 64 l) in
-    xor-same (bit (flagWord i) m) (bit m i) (not-true _ cell)
 
 abbrev pub made : ℕ → (ℕ → ℕ) → ℕ
 made zero d = 0

@@ -2,7 +2,8 @@
 -- Assumes nothing.
 use native.Mathlib.Omega.{arith}
 use borrow.Author.Needs.{needs}
-use Rattle.form.proofs.Flags.{flagWord, flags-made}
+use Rattle.bits.proofs.FlagWords.{flagWord}
+use Rattle.form.proofs.Flags.{flags-made}
 use Rattle.form.proofs.Form.flags.Statement.{statement}
 use Rattle.form.proofs.Form.flags.Tie as tie
 

@@ -4,7 +4,7 @@ use mathlib.Core.Path.{refl}
 use Prim.Native.Nat.{_*_, _/_}
 use native.Mathlib.Omega.{arith}
 use borrow.Author.Needs.{needs}
-use Rattle.form.proofs.Flags.{flagWord, bit-flagWord}
+use Rattle.bits.proofs.FlagWords.{flagWord, bit-flagWord}
 use Rattle.form.proofs.Shared.{reached-start, shared-word}
 use Rattle.form.proofs.search.shared_cubes.Statement.{statement}
 use Rattle.form.proofs.search.shared_cubes.Tie as tie
