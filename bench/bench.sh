@@ -1,6 +1,7 @@
 #!/bin/sh
-# Measures the library beside the original Rust, on the same inputs in one process, and writes the table of ratios to docs/BENCHMARK.md.
-# Use: bench/bench.sh RUST_DIR. It rests on oracle/build.sh, rustc and rt.
+# Measures the library beside the original Rust, on the same inputs in one process, and writes the table of ratios, the growth of each call, its stack and
+# the code's size to docs/BENCHMARK.md.
+# Use: bench/bench.sh RUST_DIR. It rests on oracle/build.sh, rustc, cc, size and rt.
 set -eu
 
 rust=${1:-}
@@ -21,16 +22,30 @@ trap 'exit 1' INT TERM
 rustc --edition 2021 -C opt-level=3 --crate-name bench --extern original="$scratch/liboriginal.rlib" -L "$scratch" \
     -L "$here/target/staticlib" -o "$scratch/bench" "$here/bench/main.rs"
 "$scratch/bench" >"$scratch/table.md"
+"$scratch/bench" growth >"$scratch/growth.md"
+cc -O2 -std=c99 -Wall -Wextra -Werror "$here/bench/stack.c" "$here/target/staticlib/libbench_calls.a" -o "$scratch/stack"
+"$scratch/stack" >"$scratch/stack.md"
+(cd "$here" && rt staticlib console >"$scratch/staticlib.log" 2>&1) || {
+    tail -n 5 "$scratch/staticlib.log" >&2
+    exit 1
+}
+# Code and constants, in bytes: the second and later lines of size's output, first column.
+code=$(size "$here/target/staticlib/libconsole.a" | awk 'NR > 1 { sum += $1 } END { print sum }')
 {
     cat <<'END'
 # Measured beside the original
 
-`make bench RUST=DIR` makes this page. Both sides are built for release (rustc -O for the original, -O3 for the library) and run on the same inputs in one process, the two in turn, seven rounds; a time is the least of the rounds, in nanoseconds a call, and the table has the mean over the inputs. A ratio is the original's time over ours; the last column compares the slowest tenths of the inputs. The inputs come from a fixed sequence of numbers: 60 tables of each kind for compiling, 8 for transforms, 6 for listings, and the expressions of 60 random tables for the rest. The original's results are allocated, ours are written to lent buffers, which are not cleared between calls. Absolute times vary by machine, and no time is a test.
+`make bench RUST=DIR` makes this page. Both sides are built for release (rustc -O for the original, -O3 for the library) and run on the same inputs in one process, the two in turn, seven rounds; a time is the least of the rounds, in nanoseconds a call, and the table has the mean over the inputs. A ratio is the original's time over ours; the last column compares the slowest tenths of the inputs. The inputs come from a fixed sequence of numbers: 60 tables of each kind for compiling (worst: of 1,000 random tables the 60 that ours takes longest for), 8 for transforms, 6 for listings, and the expressions of 60 random tables for the rest. The original's results are allocated, ours are written to lent buffers, which are not cleared between calls. Absolute times vary by machine, and no time is a test.
 
 The original has no way back and no examiner: the first is compared with its transform of the unpacked coefficients, the second with evaluating its tree at every setting and comparing. Costing on our side reads bytes and answers cost, size and depth; the original's side is `anf_expr_cost` and `compute_cost` on a tree that stands in memory.
 
 END
     cat "$scratch/table.md"
+    printf '\n## Growth\n\nOurs alone: the least of seven rounds, over random tables of that many flags, or one expression of that many records of six flags.\n\n'
+    cat "$scratch/growth.md"
+    printf '\n## Memory and code\n\nStack, by painting a stack of its own for each call and looking for the lowest byte that changed. No call allocates.\n\n'
+    cat "$scratch/stack.md"
+    printf '\nThe console library has %s bytes of code and constants (`size libconsole.a`).\n' "$code"
     printf '\nMeasured on: %s, %s.\n' "$(sed -n 's/^model name[^:]*: //p' /proc/cpuinfo | head -n 1)" "$(rustc --version | cut -d' ' -f1,2)"
 } >"$here/docs/BENCHMARK.md"
 cat "$scratch/table.md"

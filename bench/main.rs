@@ -5,6 +5,8 @@ use std::hint::black_box;
 use std::sync::Arc;
 use std::time::Instant;
 
+mod growth;
+
 use original::core::expr::{Expr, Kind};
 use original::core::expr_cost::compute_cost;
 use original::ir::anf_cleanup::{anf_expr_cost, build_anf_expr, AnfForm};
@@ -123,10 +125,33 @@ fn row(call: &str, inputs: &str, (a, b): (Vec<f64>, Vec<f64>)) {
     );
 }
 
+/// Of 1,000 random tables, the 60 that the library takes longest to compile.
+fn worst(n: usize, random: &mut Random) -> Vec<Vec<u64>> {
+    let mut out = [0u8; 963];
+    let mut timed: Vec<(u128, Vec<u64>)> = (0..1000)
+        .map(|_| {
+            let t = table(n, "random", random);
+            let least = (0..5)
+                .map(|_| {
+                    let start = Instant::now();
+                    black_box(unsafe { calls::bench_compile(n, t.as_ptr(), t.len(), out.as_mut_ptr(), out.len()) });
+                    start.elapsed().as_nanos()
+                })
+                .min();
+            (least.unwrap_or(0), t)
+        })
+        .collect();
+    timed.sort();
+    timed.into_iter().rev().take(60).map(|(_, t)| t).collect()
+}
+
 fn compiling(random: &mut Random) {
     for n in 3..=6usize {
-        for kind in ["random", "sparse", "dense", "few coefficients"] {
-            let tables: Vec<Vec<u64>> = (0..60).map(|_| table(n, kind, random)).collect();
+        for kind in ["random", "sparse", "dense", "few coefficients", "worst"] {
+            let tables: Vec<Vec<u64>> = match kind {
+                "worst" => worst(n, random),
+                _ => (0..60).map(|_| table(n, kind, random)).collect(),
+            };
             let mut out = [0u8; 963];
             let repeat = [200, 60, 12, 3][n - 3];
             let times = measure(
@@ -279,6 +304,10 @@ fn expressions(random: &mut Random) {
 
 fn main() {
     let mut random = Random(11);
+    if std::env::args().nth(1).as_deref() == Some("growth") {
+        growth::print(&mut random);
+        return;
+    }
     println!("| Call | Inputs | Original, ns | Ours, ns | Ratio of means | Ratio of slowest tenths |");
     println!("|---|---|---|---|---|---|");
     compiling(&mut random);

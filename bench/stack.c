@@ -1,0 +1,94 @@
+/* How much stack each of the library's calls uses: each runs on a stack of its own, painted before, and the lowest byte that changed tells. What the
+   switch to that stack takes itself is subtracted. It rests on the static library `bench_calls` and on ucontext. */
+#define _XOPEN_SOURCE 700
+#include <stddef.h>
+#include <stdint.h>
+#include <stdio.h>
+#include <string.h>
+#include <ucontext.h>
+
+size_t bench_compile(size_t flags, const uint64_t *table, size_t entries, uint8_t *out, size_t room);
+uint64_t bench_transform(size_t flags, const uint64_t *table, size_t entries, uint64_t *out, size_t room);
+uint64_t bench_way_back(size_t flags, const uint64_t *words, size_t count, uint64_t *out, size_t room);
+uint64_t bench_listing(size_t flags, const uint64_t *words, size_t count, uint32_t *out, size_t room);
+uint64_t bench_raw_cost(size_t flags, const uint64_t *words, size_t count);
+uint64_t bench_costing(size_t flags, const uint8_t *bytes, size_t length);
+uint64_t bench_evaluate(size_t flags, const uint8_t *bytes, size_t length, size_t setting);
+uint64_t bench_examine(size_t flags, const uint64_t *table, size_t entries, const uint8_t *bytes, size_t length);
+
+enum { STACK = 1 << 18, PAINT = 0xa5, FLAGS = 16, SETTINGS = 1 << FLAGS, RECORDS = 385 };
+
+static uint8_t stack[STACK];
+static uint64_t table[SETTINGS], words[SETTINGS / 64], entries[SETTINGS];
+static uint32_t masks[SETTINGS];
+static uint8_t bytes[1200], written[963];
+static size_t length;
+static ucontext_t here, there;
+
+static void nothing(void) {}
+static void compile(void) { bench_compile(6, table, 64, written, sizeof written); }
+static void transform(void) { bench_transform(FLAGS, table, SETTINGS, words, SETTINGS / 64); }
+static void way_back(void) { bench_way_back(FLAGS, words, SETTINGS / 64, entries, SETTINGS); }
+static void listing(void) { bench_listing(FLAGS, words, SETTINGS / 64, masks, SETTINGS); }
+static void raw_cost(void) { bench_raw_cost(6, table, 1); }
+static void costing(void) { bench_costing(6, bytes, length); }
+static void evaluate(void) { bench_evaluate(6, bytes, length, 37); }
+static void examine(void) { bench_examine(6, table, 64, bytes, length); }
+
+static size_t used(void (*call)(void))
+{
+    memset(stack, PAINT, STACK);
+    getcontext(&there);
+    there.uc_stack.ss_sp = stack;
+    there.uc_stack.ss_size = STACK;
+    there.uc_link = &here;
+    makecontext(&there, call, 0);
+    swapcontext(&here, &there);
+    size_t low = 0;
+    while (low < STACK && stack[low] == PAINT)
+        low++;
+    return STACK - low;
+}
+
+static void row(const char *call, const char *inputs, size_t most)
+{
+    printf("| %s | %s | %zu |\n", call, inputs, most - used(nothing));
+}
+
+/* One step of SplitMix64 (Steele, Lea and Flood, 2014). */
+static uint64_t next(uint64_t *state)
+{
+    uint64_t z = *state += 0x9E3779B97F4A7C15u;
+    z = (z ^ (z >> 30)) * 0xBF58476D1CE4E5B9u;
+    z = (z ^ (z >> 27)) * 0x94D049BB133111EBu;
+    return z ^ (z >> 31);
+}
+
+int main(void)
+{
+    uint64_t state = 11;
+    size_t most = 0;
+    printf("| Call | Inputs | Bytes of stack at most |\n|---|---|---|\n");
+    for (int t = 0; t < 2000; t++) {
+        for (int s = 0; s < 64; s++)
+            table[s] = next(&state) & 1;
+        size_t now = used(compile);
+        most = now > most ? now : most;
+    }
+    row("compile", "2,000 random tables of 6 flags", most);
+    for (int s = 0; s < SETTINGS; s++)
+        table[s] = next(&state) & 1;
+    row("transform", "16 flags", used(transform));
+    row("way back", "16 flags", used(way_back));
+    row("listing", "16 flags", used(listing));
+    row("raw costing", "6 flags", used(raw_cost));
+    /* The deepest stack of operands that a well-formed expression of 385 records has. */
+    for (int i = 0; i < RECORDS / 2 + 1; i++)
+        memcpy(bytes + length, "VA", 3), length += 3;
+    for (int i = 0; i < RECORDS / 2; i++)
+        memcpy(bytes + length, "XO", 2), length += 2;
+    row("costing", "385 records, 193 operands deep", used(costing));
+    row("evaluation", "385 records, 193 operands deep", used(evaluate));
+    row("examination", "385 records, 193 operands deep", used(examine));
+    return 0;
+}
