@@ -1,5 +1,5 @@
 # What can be done here; `make` alone lists it.
-.PHONY: help test print_rule examine_rule console bench compare
+.PHONY: help test print_rule examine_rule console bench compare unused
 .DEFAULT_GOAL := help
 
 TABLE = 0111
@@ -41,3 +41,6 @@ bench: ## measure beside the original Rust and write docs/BENCHMARK.md: RUST=fol
 
 compare: ## make the recorded answers anew from the original Rust and compare: RUST=folder of its sources
 	@oracle/compare.sh "$(RUST)"
+
+unused: ## list imports that their file does not use, and laws and definitions that nothing uses
+	@python3 tools/unused.py

@@ -1,0 +1,19 @@
+"""The time of `rt ci` by crate, as a table, from its output on standard input: rt ci | tee log; python3 tools/check_times.py <log >docs/CHECK_TIMES.md."""
+import re
+import sys
+
+proof, edits, trials = {}, {}, {}
+for line in sys.stdin:
+    if found := re.match(r"rt: (\w+) proved \((\d+) s\)", line):
+        proof[found[1]] = int(found[2])
+    if found := re.match(r"rt: must-fail (\w+)/\w+: refused.*?(\d+) s\)", line):
+        edits[found[1]] = edits.get(found[1], 0) + 1
+        trials[found[1]] = trials.get(found[1], 0) + int(found[2])
+
+print("# The time of the test by crate\n")
+print("`tools/check_times.py` makes this page from what `rt ci` prints. Seconds for each crate's own proof, and together for its must-fail edits, each of which is")
+print("one more check of the crate. Two checks run side by side, so the whole takes about half of the sum. Times vary by machine.\n")
+print("| Crate | Proof, s | Edits | Their checks, s |\n|---|---|---|---|")
+for crate in proof:
+    print(f"| `{crate}` | {proof[crate]} | {edits.get(crate, 0)} | {trials.get(crate, 0)} |")
+print(f"| all | {sum(proof.values())} | {sum(edits.values())} | {sum(trials.values())} |")
