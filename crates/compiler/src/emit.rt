@@ -148,7 +148,7 @@ fn emit_raw(form: Form, out: &mut [u8], at: Cursor) -> Cursor
     ensures { λ r. ⌜ Writes (built Choice.Raw (masks form)) at r (now (out .entry)) (now (out .exit)) ⌝ }
 {
     let mut terms = [0u32; 64];
-    let count = anf_form::terms(form.word, &mut terms);
+    let count = form.terms(&mut terms);
     postfix::put_fold(&terms, 0, count, out, at)
 }
 

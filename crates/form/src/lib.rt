@@ -9,6 +9,7 @@ ghost use mathlib.Core.Path.{_≡_};
 ghost use Prim.Native.Nat.{_<_, _≤_};
 ghost use lib.Dec.{ltb};
 ghost use lib.ListN.{length};
+ghost use lib.Seq.{sets};
 ghost use Rattle.bits.specs.Bit.{within, digit};
 ghost use Rattle.bits.specs.Range.{keep, mem};
 ghost use Rattle.bits.specs.Sum.{union};
@@ -40,13 +41,6 @@ impl Form {
         ensures { λ r. ⌜ r ≡ length (monomial.monomials (masks self)) ⌝ }
     {
         u64::count_ones(self.word / 2) as usize
-    }
-
-    // How many masks there are, the constant's among them.
-    pub fn size(self) -> usize
-        ensures { λ r. ⌜ r ≡ length (masks self) ⌝ }
-    {
-        u64::count_ones(self.word) as usize
     }
 
     // Whether there is no mask at all, not even the constant's.
@@ -95,6 +89,14 @@ impl Form {
         ensures { λ r. ⌜ r ≡ raw.rawCost (masks self) ⌝ }
     {
         anf_form::raw_cost(self.word)
+    }
+
+    // All terms in the raw form's order, at the front of `out`; it answers how many there are.
+    pub fn terms(self, out: &mut [u32]) -> usize
+        requires { ⌜ length (masks self) ≤ length (now out) ⌝ }
+        ensures { λ r. ⌜ (r ≡ length (masks self)) × (now (out .exit) ≡ sets (now (out .entry)) 0 (monomial.ordered (masks self))) ⌝ }
+    {
+        anf_form::terms(self.word, out)
     }
 
     // Whether the monomials are exactly the nonempty subsets of the single flags.
