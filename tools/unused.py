@@ -7,7 +7,7 @@ import pathlib
 import re
 
 ROOT = pathlib.Path("crates")
-KEPT = {"Rows", "RoundTrip", "Verdict", "Demand", "Accepts", "AcceptsCompiled", "WellFormed", "Zhegalkin", "Example", "Printed", "Front"}
+KEPT = {"Rows", "RoundTrip", "Verdict", "Demand", "Accepts", "AcceptsCompiled", "WellFormed", "Zhegalkin", "Example", "Printed", "Input"}
 COMMENT = re.compile(r"(?m)(^|\s)(--|//)(\s.*)?$")
 USE = re.compile(r"(?m)^\s*(?:pub )?(?:ghost )?use ([^\s;{]+?)(?:\.\{([^}]*)\}| as (\S+?))?;?\s*$")
 DECLARED = re.compile(r"( *)(?:(?:abbrev |unfoldable |pub )*([^\s:(){}=]+) : |(?:pub )?(?:record|data) ([^\s:(){}=]+))")
