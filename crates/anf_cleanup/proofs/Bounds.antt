@@ -7,7 +7,7 @@
 --   pair-bounds, pair-limit                == two monomials ascend, from 1 to 63; the cost of both products of an absorption
 use mathlib.Core.Bool.{Bool, true, false}
 use mathlib.Core.List.{List, [], _∷_, map}
-use mathlib.Core.Path.{_≡_, refl, sym, ap, subst, _∙_}
+use mathlib.Core.Path.{_≡_, refl, subst}
 use Prim.Native.Nat.{ℕ, _-_, _≤_, _<_}
 use native.Mathlib.Nat.{le-trans}
 use native.Mathlib.Omega.{arith}
@@ -15,15 +15,14 @@ use lib.Count.{ones, ones-le}
 use lib.Dec.{ltb}
 use lib.ListN.{length}
 use borrow.Author.Tests.{ltb-true, ltb-false}
-use Rattle.bits.specs.Bit.{digit, within}
-use Rattle.bits.specs.Range.{mem, Ascending, Below}
+use Rattle.bits.specs.Bit.{within}
+use Rattle.bits.specs.Range.{Ascending, Below}
 use Rattle.bits.specs.Sum.{sum, union}
 use Rattle.bits.specs.Word.{places}
-use Rattle.bits.proofs.Ascending.{ascending-keep, below-keep}
+use Rattle.bits.proofs.Ascending.{below-keep}
 use Rattle.bits.proofs.Mask.{within-le}
-use Rattle.bits.proofs.Range.{mem-head, mem-tail, mem-keep}
+use Rattle.bits.proofs.Range.{mem-head, mem-tail}
 use Rattle.bits.proofs.Total.{total-keep-le}
-use Rattle.bits.proofs.Truth.{and-true-r}
 use Rattle.bits.proofs.Union.{union-mem, union-lt}
 use Rattle.bits.proofs.Word.{ascending-places, below-places}
 use Rattle.rules.specs.Cleanup.{covered, stripped, cleanup}
@@ -31,7 +30,7 @@ use Rattle.rules.specs.Form.{cube, orChain, rawCost, literals}
 use Rattle.rules.specs.Monomial.{monomials}
 use Rattle.rules.specs.Tree.{cost}
 use Rattle.rules.proofs.Cost.{cost-cube, cost-orChain, cost-orChain-few, raw-literals, termCost-suc}
-use Rattle.rules.proofs.Covered.{ascending-stripped}
+use Rattle.rules.proofs.Covered.{pair-order, ascending-stripped}
 use Rattle.rules.proofs.Size.{cost-cleanup, rawCost-limit}
 
 pub union-some : (k : List ℕ) → Ascending k → 2 ≤ length k → 0 < union k
@@ -92,10 +91,9 @@ module _ (w m o : ℕ) (e : monomials (places 64 w) ≡ m ∷ o ∷ []) where
   pub pair-bounds : (0 < m) × (m < o) × (o < 64)
   pair-bounds =
       let l = places 64 w in
-      let up : Ascending (m ∷ o ∷ []) = subst Ascending e (ascending-keep (ltb 0) l (ascending-places 64 w)) in
+      let (first, up) = pair-order l (ascending-places 64 w) m o e in
       let low : Below 64 (m ∷ o ∷ []) = subst (Below 64) e (below-keep 64 (ltb 0) l (below-places 64 w)) in
-      let first = and-true-r (mem m l) (ltb 0 m) (sym (mem-keep (ltb 0) l m) ∙ ap (mem m) e ∙ mem-head m (o ∷ [])) in
-      (ltb-true 0 m first, up .0, low .1 .0)
+      (first, up, low .1 .0)
 
   pub pair-limit : (cost (cube m) ≤ 11) × (cost (cube (o - m)) ≤ 11)
   pair-limit =

@@ -2,55 +2,46 @@
 -- have fewer literals than the form, and in a form of one word the mask is below 64 and costs little. It rests on the best choice (rules, Greatest),
 -- the candidates (rules, Recursion), the literals of parts (rules, Literals) and the bounds of a form in one word (Bounds). Assumes nothing.
 --   family-many, family-fewer, family-limit    == where rule 2 chooses the mask m: three monomials; the remainder has fewer literals; m and its chain
---   isCube-many, isCube-fewer, isCube-within   == a candidate cube covers two monomials; its stripped form has fewer literals; its flags occur
+--   isCube-fewer, isCube-within                == of a candidate cube the stripped form has fewer literals, and its flags occur
 --   cube-many, cube-fewer, inner-fewer         == where rule 3 chooses the cube c: two monomials; the remainder and the stripped form have fewer literals
 --   cube-below, cube-limit                     == and c is below 64; with its product
-use mathlib.Core.Bool.{true, not, _&&_, _||_}
-use mathlib.Core.List.{List, [], _∷_}
-use mathlib.Core.Path.{_≡_, sym, ap, subst, _∙_}
-use Prim.Native.Nat.{ℕ, _+_, _^_, _≤_, _<_}
+use mathlib.Core.Bool.{true, not}
+use mathlib.Core.List.{List}
+use mathlib.Core.Path.{_≡_, sym, subst, _∙_}
+use Prim.Native.Nat.{ℕ, _+_, _≤_, _<_}
 use native.Mathlib.Nat.{lt-of-le-of-lt, le-trans}
 use native.Mathlib.Omega.{arith}
 use lib.Count.{ones}
-use lib.Dec.{ltb, leb, eqb}
 use lib.ListN.{length}
-use lib.Pow.{pow-pos}
-use borrow.Author.Tests.{leb-true, ltb-true, lt-ltb}
 use Rattle.bits.specs.Bit.{within}
-use Rattle.bits.specs.Range.{from, keep, all, mem}
+use Rattle.bits.specs.Range.{from, keep, mem}
 use Rattle.bits.specs.Sum.{union}
 use Rattle.bits.specs.Word.{places}
-use Rattle.bits.proofs.Ascending.{below-mem}
-use Rattle.bits.proofs.Bit.{lt-pow, nonzero-bit}
-use Rattle.bits.proofs.Mask.{within-le, within-pow, within-refl, within-trans, ones-pow}
-use Rattle.bits.proofs.Range.{length-keep, mem-head, mem-keep}
-use Rattle.bits.proofs.Union.{union-mem}
+use Rattle.bits.proofs.Mask.{within-le}
+use Rattle.bits.proofs.Range.{length-keep, mem-keep}
 use Rattle.bits.proofs.Total.{total-const, total-two}
-use Rattle.bits.proofs.Truth.{and-intro, and-true-l, and-true-r}
-use Rattle.bits.proofs.Word.{below-places}
-use Rattle.rules.specs.Cleanup.{family, isPartial, bestFamily, meets, covered, stripped, isCube, bestCube, cleanup}
+use Rattle.bits.proofs.Truth.{and-true-r}
+use Rattle.bits.proofs.Word.{places-lt}
+use Rattle.rules.specs.Cleanup.{family, bestFamily, covered, stripped, isCube, bestCube, cleanup}
 use Rattle.rules.specs.Form.{cube, orChain, literals}
 use Rattle.rules.specs.Monomial.{monomials}
 use Rattle.rules.specs.Tree.{cost}
-use Rattle.rules.proofs.Covered.{covered-within, mem-covered}
-use Rattle.rules.proofs.Family.{mem-family}
+use Rattle.rules.proofs.Covered.{covered-occurs}
+use Rattle.rules.proofs.Family.{family-own, family-other}
 use Rattle.rules.proofs.Greatest.{greatest-mem}
 use Rattle.rules.proofs.Literals.{literals-stripped, literals-uncovered, literals-without}
-use Rattle.rules.proofs.Recursion.{families, cubes, families-mem, cubes-mem}
+use Rattle.rules.proofs.Recursion.{families, cubes, isCube-many, families-mem, cubes-mem}
+use Rattle.rules.proofs.Turn.{may-part}
 use Rattle.anf_cleanup.specs.Plan.{Chosen}
 use Rattle.anf_cleanup.specs.declared.Best.{Best}
 use Rattle.anf_cleanup.proofs.Bounds.{flags-below, inner-limit, product-limit, chain-limit}
 
 -- ---- rule 2
 
--- a mask of two flags or more has itself and a flag in its family
 family-two : (m : ℕ) → 2 ≤ ones m → 0 < m → 2 ≤ length (family m)
 family-two m h p =
-    let (i, k, b) = nonzero-bit m m (lt-pow m) p in
-    let own : mem m (family m) ≡ true = mem-family m m ∙ and-intro _ _ (lt-ltb 0 m p) (within-refl m) in
-    let flag : mem (2 ^ i) (family m) ≡ true = mem-family (2 ^ i) m ∙ and-intro _ _ (lt-ltb 0 (2 ^ i) (pow-pos i)) (within-pow i m ∙ b) in
-    let other : m ≡ 2 ^ i → ⊥ = λ e. omega (arith, ap ones e, ones-pow i) in
-    omega (arith, total-const 1 (family m), total-two (λ x. 1) (family m) m (2 ^ i) own flag other)
+    let (s, here, other) = family-other m h p in
+    omega (arith, total-const 1 (family m), total-two (λ x. 1) (family m) m s (family-own m p) here other)
 
 module _ (l : List ℕ) (m : ℕ) (e : m ≡ bestFamily l) (p : 0 < m) where
   among : mem m (families l) ≡ true
@@ -58,49 +49,24 @@ module _ (l : List ℕ) (m : ℕ) (e : m ≡ bestFamily l) (p : 0 < m) where
   among = subst (λ (x : ℕ). mem x (families l) ≡ true) (sym e) (greatest-mem _ (families l) (omega arith))
 
   pub family-many : 3 ≤ length (monomials l)
-  unfolding isPartial
-  family-many =
-      let test = and-true-r (mem m (monomials l)) (isPartial l m) (sym (mem-keep (isPartial l) (monomials l) m) ∙ among) in
-      let several = leb 2 (ones m) in
-      let subsets = all (λ s. mem s l) (family m) in
-      let fewer = ltb (length (family m)) (length (monomials l)) in
-      let front = and-true-l (several && subsets) fewer test in
-      omega (
-        arith,
-        family-two m (leb-true 2 (ones m) (and-true-l several subsets front)) p,
-        ltb-true (length (family m)) (length (monomials l)) (and-true-r (several && subsets) fewer test),
-      )
+  family-many = let u = may-part l m among in omega (arith, u .fewer, family-two m (u .several) p)
 
   pub family-fewer : (k : List ℕ) → k ≡ keep (λ x. not (mem x (family m))) l → literals k < literals l
   family-fewer k q = subst (λ (x : List ℕ). literals x < literals l) (sym q) (literals-without m l p (families-mem l m among .1))
 
 pub family-limit : (w m : ℕ) → m ≡ bestFamily (places 64 w) → 0 < m → (m < 64) × (cost (orChain m) ≤ 7)
 family-limit w m e p =
-    let h = below-mem 64 (places 64 w) m (below-places 64 w) (families-mem (places 64 w) m (among (places 64 w) m e p) .1) in
+    let h = places-lt 64 w m (families-mem (places 64 w) m (among (places 64 w) m e p) .1) in
     (h, chain-limit m h)
 
 -- ---- rule 3
 
-some : (k : List ℕ) → 0 < length k → (m : ℕ) × (mem m k ≡ true)
-some [] h = absurd (omega arith)
-some (m ∷ k) h = (m, mem-head m k)
-
 module _ (l : List ℕ) (c : ℕ) (e : isCube l c ≡ true) where
-  pub isCube-many : 2 ≤ length (covered c l)
-  unfolding isCube
-  isCube-many =
-      leb-true 2 (length (covered c l))
-      (and-true-r (eqb (ones c) 1 && within c (union l) || leb 2 (ones c) && meets (monomials l) c) _ e)
-
   pub isCube-fewer : 0 < c → (k : List ℕ) → k ≡ stripped c l → literals k < literals l
-  isCube-fewer p k q = subst (λ (x : List ℕ). literals x < literals l) (sym q) (literals-stripped c l p (omega (arith, isCube-many)))
+  isCube-fewer p k q = subst (λ (x : List ℕ). literals x < literals l) (sym q) (literals-stripped c l p (omega (arith, isCube-many l c e)))
 
   pub isCube-within : within c (union l) ≡ true
-  isCube-within =
-      let (m, here) = some (covered c l) (omega (arith, isCube-many)) in
-      let monomial = and-true-l (mem m (monomials l)) (within c m) (sym (mem-covered c l m) ∙ here) in
-      within-trans c m (union l) (covered-within c l m here)
-      (union-mem l m (and-true-l (mem m l) (ltb 0 m) (sym (mem-keep (ltb 0) l m) ∙ monomial)))
+  isCube-within = covered-occurs c l (omega (arith, isCube-many l c e))
 
 module _ (l : List ℕ) (c : ℕ) (e : c ≡ bestCube cleanup l) (p : 0 < c) where
   candidate : mem c (cubes l) ≡ true

@@ -28,12 +28,12 @@ use Rattle.bits.proofs.Truth.{and-true-l, and-true-r, and-implied}
 use Rattle.bits.proofs.Word.{places-lowest}
 use Rattle.rules.specs.Cleanup.{cleanup, covered, isCube, cubeSaving, better, greatest, bestCube}
 use Rattle.rules.specs.Cleanup as paper
-use Rattle.rules.proofs.Recursion.{cubes}
+use Rattle.rules.proofs.Recursion.{cubes, isCube-many}
 use Rattle.anf_cleanup.specs.Plan.{bestOf, tried, InnerKept, Tried, Chosen}
 use Rattle.anf_cleanup.specs.declared.Best.{Best}
 use Rattle.anf_cleanup.specs.declared.Choice.the-variants.{Open}
 use Rattle.anf_cleanup.proofs.Bounds.{flags-below}
-use Rattle.anf_cleanup.proofs.Candidates.{isCube-many, isCube-within}
+use Rattle.anf_cleanup.proofs.Candidates.{isCube-within}
 
 abbrev twice : List ℕ → ℕ → Bool
 twice l c = leb 2 (length (covered c l))

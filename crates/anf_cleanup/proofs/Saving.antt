@@ -33,13 +33,13 @@ use Rattle.rules.proofs.Cost.{cost-cube, termCost-suc, raw-literals}
 use Rattle.rules.proofs.Covered.{covered-within, ascending-covered, ascending-stripped}
 use Rattle.rules.proofs.Least.{least-cleanup}
 use Rattle.rules.proofs.Literals.{literals-covered}
+use Rattle.rules.proofs.Recursion.{isCube-many}
 use Rattle.rules.proofs.Size.{cost-cleanup}
 use Rattle.anf_cleanup.specs.Plan.{bestOf, tried, Right, gross, least, Known, Tried}
 use Rattle.anf_cleanup.specs.declared.Best.{Best}
 use Rattle.anf_cleanup.specs.declared.Choice.{Choice}
 use Rattle.anf_cleanup.specs.declared.Choice.the-variants.{Open}
 use Rattle.anf_cleanup.proofs.Bounds.{union-some}
-use Rattle.anf_cleanup.proofs.Candidates.{isCube-many}
 use Rattle.anf_cleanup.proofs.Plans.{right-open}
 
 -- ---- one more mask

@@ -1,4 +1,5 @@
 -- A plan: which rule wins for a form, and at what cost.
+--   only t us            == the only tree of us, or else t
 --   built c l            == the tree that the choice c makes of the form l
 --   Allowed c l          == what the choice c supposes of the form l: that its rule applies, with the mask that the rule chooses
 --   rank c               == 1 where the choice is left open, else 0
@@ -6,6 +7,9 @@
 --   Parts c l i r        == i and r are right for what the choice c leaves to clean of the form l: the inner form and the remainder
 --   Planned l t p        == the plan p makes the tree t of the form l, by a rule that applies, and tells its cost and choices that are right for its parts
 --   Improved l us p q    == where p plans the best tree so far, q plans the best after the candidates us
+--   bestOf b             == the code's best as document 01's search keeps it
+--   InnerOf l b          == b keeps the cost of the cleaned inner form of its cube in l, and a choice that is right for it
+--   InnerKept l b        == so where b has a cube
 --   tried l b c          == document 01's best after the mask c is tried, where b was the best before
 --   Tried l c b r        == so of the code's b and r, which keep the cost of the cleaned inner form too
 --   gross c l            == what the cube c saves in the form l before its inner form is paid for

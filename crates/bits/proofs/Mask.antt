@@ -7,15 +7,16 @@
 --   within-pow, and-pow                                  == one member
 --   within-or-l, within-or-r, within-and-l, within-and-r == what a union and an intersection hold
 --   within-or, within-and                                == a union within, and within an intersection
+--   or-within                                            == the union of a part and the whole
 --   sub-xor, bit-sub, sub-disjoint                       == what a part leaves of the whole
 --   bit-add, within-add, within-split                    == sets with no common member add
 --   ones-add, ones-sub, ones-or                          == sizes add, and a union has no more members than its parts together
---   ones-zero, ones-pos, ones-pow, one-is-pow            == sizes 0 and 1
+--   ones-zero, zero-ones, ones-pos, ones-pow, one-is-pow == sizes 0 and 1
 use mathlib.Core.Path.{_≡_, refl, sym, ap, ap₂, _∙_}
 use mathlib.Core.Bool.{Bool, true, false, not, _&&_, _||_, and-comm as &&-comm, false≢true}
 use mathlib.Core.Logic.{_⊎_, inl, inr, ⊎-elim}
 use mathlib.Mathlib.Data.Bool.Basic.{eq-false-of-not-eq-true}
-use Prim.Native.Nat.{ℕ, suc, _+_, _-_, _*_, _/_, _%_, _^_, _≤_, _<_}
+use Prim.Native.Nat.{ℕ, zero, suc, _+_, _-_, _*_, _/_, _%_, _^_, _≤_, _<_}
 use native.Mathlib.Nat.{le-antisymm, lt-of-le-of-lt, eq-zero-or-pos, zero-add, add-zero, zero-mul, one-mul, pow-suc}
 use native.Mathlib.Omega.{arith}
 use lib.Dec.{eqb}
@@ -130,6 +131,10 @@ within-or a b m = bool-ext _ _ apart together
         let g = and-true-r (within a m) (within b m) h in
         bits-within (bitOr a b) m (λ i e. ⊎-elim (within-bit a m i f) (within-bit b m i g) (or-split (bit a i) (bit b i) (sym (bit-or a b i) ∙ e)))
 
+pub or-within : (c m : ℕ) → within c m ≡ true → bitOr c m ≡ m
+or-within c m h =
+    within-antisym (bitOr c m) m (within-or c m m ∙ and-intro (within c m) (within m m) h (within-refl m)) (within-or-r c m)
+
 pub within-and : (s a b : ℕ) → within s (bitAnd a b) ≡ (within s a && within s b)
 within-and s a b = bool-ext _ _ apart together
   where
@@ -191,6 +196,11 @@ ones-or a b =
 
 pub ones-zero : (m : ℕ) → ones m ≡ 0 → m ≡ 0
 ones-zero = bin-ind (λ (m : ℕ). ones m ≡ 0 → m ≡ 0) (λ e. refl) (λ m ih e. let s = ones-step m in let h = ih (omega arith) in omega arith)
+
+pub zero-ones : (m : ℕ) → m ≤ 0 → ones m ≡ 0
+unfolding ones
+zero-ones zero h = refl
+zero-ones (suc m) h = absurd (omega arith)
 
 pub ones-pos : (m : ℕ) → 0 < m → 0 < ones m
 ones-pos m p = go (eq-zero-or-pos (ones m))

@@ -10,6 +10,7 @@
 --   length-keep                                 == the length of what is kept
 --   mem-keep, mem-from, mem-upto                == who is a member
 --   mem-head, mem-tail, mem-cons                == the first, those behind it, and no others
+--   mem-some                                    == a list that is not empty has a member
 --   all-mem, mem-all, any-mem, mem-any          == all and any, at members
 --   same-true, same-refl                        == the test of equal lists
 use mathlib.Core.Bool.{Bool, true, false, not, _&&_, _||_, and-assoc, or-assoc, and-false, or-true, false≢true}
@@ -157,6 +158,10 @@ module _ {A B : Type 0} (p : B → Bool) (f : A → B) where
 pub mem-head : (x : ℕ) (l : List ℕ) → mem x (x ∷ l) ≡ true
 unfolding any
 mem-head x l = rw (eq-eqb x x refl)
+
+pub mem-some : (l : List ℕ) → 0 < length l → (x : ℕ) × (mem x l ≡ true)
+mem-some [] h = absurd (omega arith)
+mem-some (x ∷ l) h = (x, mem-head x l)
 
 pub mem-tail : (y : ℕ) (l : List ℕ) (x : ℕ) → mem x l ≡ true → mem x (y ∷ l) ≡ true
 unfolding any

@@ -6,6 +6,7 @@
 --   any p l      == some element passes
 --   mem x l      == the number x stands in l
 --   same l k     == two lists of numbers are equal
+--   After a l    == each element is less than the one after it, and a less than the first
 --   Ascending l  == each element is less than the one after it
 --   Below k l    == every element is less than k
 use mathlib.Core.Bool.{Bool, true, false, _&&_, _||_}

@@ -22,9 +22,9 @@ use Rattle.bits.proofs.Word.{bit-word-keep, word-keep-lt, word-ext}
 use Rattle.rules.specs.Limits.{recordLimit}
 use Rattle.rules.specs.Machine.{made}
 use Rattle.rules.specs.Outcome.{Outcome, gives, refuses, _then_}
-use Rattle.rules.specs.Record.{Kind, Constant, Flag, And, Or, Xor, Not, Found}
+use Rattle.rules.specs.Record.{Kind, Constant, Flag, And, Or, Xor, Not, FlagBelow, Found}
 use Rattle.rules.specs.Tree.{Tree, CO, VA, AN, OR, XO, NO, value, cost}
-use Rattle.expr.specs.Answers.{arityOf, orOf, IndexBelow, ended}
+use Rattle.expr.specs.Answers.{arityOf, orOf, ended}
 use Rattle.expr.proofs.Costed.{Costed, costed-step, costed-end}
 use Rattle.expr.proofs.Reader.{Read, read-index}
 use Rattle.expr.proofs.Walk.{Folds}
@@ -107,7 +107,7 @@ module _ (n : ℕ) (ws : List ℕ) where
   lanes-folds Not x y a c p q = ap (λ (w : ℕ). (2 ^ 64 - 1) - w) (p (lit≤ tt)) ∙ lanes-no x
 
   -- the code's step, for a flag below n
-  applied-combined : ((i : ℕ) → getD ws i 0 < 2 ^ 64) → (k : Kind) → IndexBelow n k → (x y : ℕ) → applied ws k x y ≡ combined k x y
+  applied-combined : ((i : ℕ) → getD ws i 0 < 2 ^ 64) → (k : Kind) → FlagBelow n k → (x y : ℕ) → applied ws k x y ≡ combined k x y
   applied-combined small (Constant b) h x y = refl
   applied-combined small (Flag i) h x y = lanes-va i h (small i)
   applied-combined small And h x y = refl

@@ -13,7 +13,8 @@ ghost use lib.Dec.{eqb};
 ghost use lib.ListN.{length};
 ghost use Rattle.rules.specs.Limits.{ruleFlags};
 ghost use Rattle.rules.specs.Outcome.{gives};
-ghost use Rattle.expr.specs.Answers.{kindOf, ended, IndexBelow};
+ghost use Rattle.rules.specs.Record.{FlagBelow};
+ghost use Rattle.expr.specs.Answers.{kindOf, ended};
 ghost use Rattle.examiner.specs.Lanes.{seen, walkedOf, applied, filled};
 
 // The values of an expression in all lanes, and its cost.
@@ -85,7 +86,7 @@ fn finished(values: u64, cost: usize, depth: usize, length: usize) -> Walked
 
 // The lanes of a record from those of its operands; a leaf has none.
 fn value(kind: Kind, words: &[u64], first: u64, second: u64) -> u64
-    requires { ⌜ IndexBelow (length (now words)) (kindOf kind) ⌝ }
+    requires { ⌜ FlagBelow (length (now words)) (kindOf kind) ⌝ }
     ensures { λ r. ⌜ r ≡ applied (now (words .entry)) (kindOf kind) first second ⌝ }
 {
     match kind {

@@ -18,9 +18,8 @@ use borrow.Author.Tests.{ltb-true, ltb-false, le-ltb}
 use Rattle.rules.specs.Calls.{read}
 use Rattle.rules.specs.Limits.{ruleFlags, tooManyFlags}
 use Rattle.rules.specs.Outcome.{Outcome, gives, refuses, refuse, _then_}
-use Rattle.rules.specs.Record.{Kind, Constant, Flag, And, Or, Xor, Not, Found, recordAt}
-use Rattle.rules.proofs.RecordAt.{FlagBelow, record-read}
-use Rattle.expr.specs.Answers.{IndexBelow}
+use Rattle.rules.specs.Record.{Kind, Constant, Flag, And, Or, Xor, Not, FlagBelow, Found, recordAt}
+use Rattle.rules.proofs.RecordAt.{record-read}
 use Rattle.expr.specs.declared.Reading.{Reading}
 use Rattle.expr.proofs.Reading.{the-type}
 
@@ -39,7 +38,7 @@ clash e = absurd (omega arith)
 found-read : (n : ℕ) (s : List ℕ) (p : ℕ) (r : Found) → recordAt n s p ≡ gives r → Read n s p r
 found-read n s p r e = let d = record-read n s p r e in record { stands = e; after = d .ahead; within = d .inside; index = d .flag }
 
-index-more : (n m : ℕ) → n ≤ m → (k : Kind) → FlagBelow n k → IndexBelow m k
+index-more : (n m : ℕ) → n ≤ m → (k : Kind) → FlagBelow n k → FlagBelow m k
 index-more n m l (Constant b) h = tt
 index-more n m l (Flag i) h = omega arith
 index-more n m l And h = tt
@@ -47,7 +46,7 @@ index-more n m l Or h = tt
 index-more n m l Xor h = tt
 index-more n m l Not h = tt
 
-pub read-index : {n : ℕ} {s : List ℕ} {p : ℕ} {r : Found} → Read n s p r → (m : ℕ) → n ≤ m → IndexBelow m (r .kind)
+pub read-index : {n : ℕ} {s : List ℕ} {p : ℕ} {r : Found} → Read n s p r → (m : ℕ) → n ≤ m → FlagBelow m (r .kind)
 read-index {n} {r = r} f m l = index-more n m l (r .kind) (f .index)
 
 -- ---- the three answers

@@ -3,14 +3,13 @@
 --   readingOf r      == the reader's answer: a record with the next place, the end, or a refusal
 --   arityOf k        == how many operands a record of the kind has
 --   orOf k           == a record of the kind is an OR
---   IndexBelow n k   == a record of the kind names no flag at n or above
 --   constantAt s p   == the reader's answer at a record of the mark CO
 --   flagAt n s p     == the reader's answer at a record of the mark VA
 --   ended d len o    == the answer o at the end of len bytes, where d operands are left
 use mathlib.Core.Bool.{Bool, true, false, not}
 use mathlib.Core.List.{List}
 use mathlib.Core.Option.{Option, none, some}
-use Prim.Native.Nat.{ℕ, _+_, _<_}
+use Prim.Native.Nat.{ℕ, _+_}
 use lib.Dec.{eqb, leb, ltb}
 use lib.ListN.{getD}
 use Rattle.rules.specs.Limits.{badEnd}
@@ -51,14 +50,6 @@ orOf paper.And = false
 orOf paper.Or = true
 orOf paper.Xor = false
 orOf paper.Not = false
-
-abbrev pub IndexBelow : ℕ → paper.Kind → Type 0
-IndexBelow n (paper.Constant b) = Unit
-IndexBelow n (paper.Flag i) = i < n
-IndexBelow n paper.And = Unit
-IndexBelow n paper.Or = Unit
-IndexBelow n paper.Xor = Unit
-IndexBelow n paper.Not = Unit
 
 -- "`CO`, then one byte, 0 or 1"
 unfoldable pub constantAt : List ℕ → ℕ → Outcome (Option paper.Found)

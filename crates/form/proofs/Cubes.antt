@@ -21,18 +21,16 @@ use Rattle.bits.specs.Bit.{bit, within}
 use Rattle.bits.specs.Range.{keep, any, mem}
 use Rattle.bits.specs.Sum.{union}
 use Rattle.bits.specs.Word.{places}
-use Rattle.bits.proofs.Truth.{and-intro, and-true-l, and-implied}
-use Rattle.bits.proofs.Mask.{within-trans, within-and-l, within-and-r, ones-pos}
-use Rattle.bits.proofs.Range.{mem-head, mem-tail, mem-keep, any-keep, any-ext, any-map, any-mem}
-use Rattle.bits.proofs.Ascending.{below-mem}
+use Rattle.bits.proofs.Truth.{and-intro, and-implied}
+use Rattle.bits.proofs.Mask.{within-and-l, within-and-r, ones-pos}
+use Rattle.bits.proofs.Range.{mem-head, mem-tail, any-keep, any-ext, any-map, any-mem}
 use Rattle.bits.proofs.Disjoint.{within-not, disjoint-sub}
 use Rattle.bits.proofs.Lowest.{trailing-lt, clear-above, ones-clear}
 use Rattle.bits.proofs.Sets.{mem-bit, any-bit}
-use Rattle.bits.proofs.Union.{union-mem}
-use Rattle.bits.proofs.Word.{below-places, ones-places, places-lowest}
+use Rattle.bits.proofs.Word.{places-lt, ones-places, places-lowest}
 use Rattle.rules.specs.Cleanup.{meets, covered, stripped, isCube}
 use Rattle.rules.specs.Monomial.{monomials}
-use Rattle.rules.proofs.Covered.{mem-covered, covered-within}
+use Rattle.rules.proofs.Covered.{covered-within, covered-occurs}
 use Rattle.rules.proofs.Family.{mem-family}
 use Rattle.form.specs.Masks.{familyWords}
 use Rattle.form.proofs.Entries.{getD-families, bit-family}
@@ -78,10 +76,6 @@ module _ (c : ℕ) where
 
 -- ---- candidates, by the word v of the stripped masks
 
-first : (k : List ℕ) → 2 ≤ length k → (m : ℕ) × (mem m k ≡ true)
-first [] h = absurd (omega arith)
-first (m ∷ k) h = (m, mem-head m k)
-
 module _ (l : List ℕ) (c v : ℕ) (e : places 64 v ≡ stripped c l) (h : v < 2 ^ 64) where
   abbrev listed : Bool
   listed = eqb (ones c) 1 && within c (union l) || leb 2 (ones c) && meets (monomials l) c
@@ -108,12 +102,7 @@ module _ (l : List ℕ) (c v : ℕ) (e : places 64 v ≡ stripped c l) (h : v < 
       many = omega (arith, length-covered, ones-clear 64 v p h, ones-pos (bitAnd v (v - 1)) q)
 
       occurs : within c (union l) ≡ true
-      occurs =
-          let t = first (covered c l) many in
-          let m = t .0 in
-          let here = and-true-l (mem m (monomials l)) (within c m) (sym (mem-covered c l m) ∙ t .1) in
-          within-trans c m (union l) (covered-within c l m (t .1))
-          (union-mem l m (and-true-l (mem m l) (ltb 0 m) (sym (mem-keep (ltb 0) l m) ∙ here)))
+      occurs = covered-occurs c l (omega (arith, many))
 
       module _ (k : 0 < c) (s : c < 64) where
         pub cube-single : bitAnd c (c - 1) ≡ 0 → isCube l c ≡ true
@@ -149,7 +138,7 @@ module _ (v : ℕ) (p : 0 < v) (h : v < 2 ^ 64) (ws : List ℕ) (table : ws ≡ 
       let up = clear-above 64 v p h b (sym (mem-bit 64 rest b small) ∙ e) in
       ap (λ (l : List ℕ). bit (getD l (63 - t) 0) b) table ∙ ap (λ (x : ℕ). bit x b) (getD-families (63 - t) (omega arith)) ∙ bit-family (63 - t) b
       ∙ mem-family b (63 - t) ∙ ap (λ (x : Bool). x && within b (63 - t)) (lt-ltb 0 b (omega arith))
-      ∙ within-not 6 t b (trailing-lt 64 v p h) (below-mem 64 (places 64 rest) b (below-places 64 rest) e)
+      ∙ within-not 6 t b (trailing-lt 64 v p h) (places-lt 64 rest b e)
 
   meets-lowest : meets (places 64 v) 0 ≡ (ltb 0 (bitAnd rest others) || meets (places 64 rest) 0)
   unfolding meets

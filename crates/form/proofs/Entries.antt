@@ -1,6 +1,7 @@
 -- The two constant tables, entry by entry: the word of a mask's nonempty subsets, and the word of a cube's supersets.
 -- It rests on the laws of words (bits, Word) and of a mask's nonempty subsets (rules, Family). Assumes nothing.
 --   getD-families, bit-family, places-family, family-lt  == entry u of the first, its bits, its places and its size
+--   below-family                                         == the subsets of a mask of six flags are below 64
 --   getD-supersets, bit-superset, superset-lt            == entry c of the second
 use mathlib.Core.Path.{_≡_, sym, _∙_}
 use Prim.Native.Nat.{ℕ, _^_, _<_}

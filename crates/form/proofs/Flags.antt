@@ -5,7 +5,7 @@
 --   flags-made, singles-made == the flags that occur, and the single flags
 --   singles-lt               == the single flags are flags below six
 use mathlib.Core.Bool.{Bool}
-use mathlib.Core.Path.{_≡_, refl, sym, ap, ap₂, _∙_}
+use mathlib.Core.Path.{_≡_, sym, ap, ap₂, _∙_}
 use Prim.Native.Nat.{ℕ, zero, suc, _+_, _*_, _/_, _%_, _^_, _<_}
 use native.Mathlib.Nat.{mod-eq-of-lt}
 use native.Mathlib.Omega.{arith}
@@ -19,10 +19,10 @@ use Rattle.bits.specs.Word.{places}
 use Rattle.bits.proofs.Bit.{digit-bit, mod-pow-suc}
 use Rattle.bits.proofs.FlagWords.{flagWord, bit-flagWord}
 use Rattle.bits.proofs.Range.{any-ext}
-use Rattle.bits.proofs.Ascending.{below-mem, below-keep}
+use Rattle.bits.proofs.Ascending.{below-keep}
 use Rattle.bits.proofs.Sets.{any-bit, mem-bit}
 use Rattle.bits.proofs.Union.{bit-union, union-lt, bit-union-singles}
-use Rattle.bits.proofs.Word.{below-places}
+use Rattle.bits.proofs.Word.{below-places, places-lt}
 use Rattle.rules.specs.Cleanup.{singles}
 
 abbrev pub made : ℕ → (ℕ → ℕ) → ℕ
@@ -45,7 +45,7 @@ module _ (w : ℕ) (h : w < 2 ^ 64) where
   flags-made =
       made-bits (union (places 64 w)) (λ k. digit (ltb 0 (bitAnd w (flagWord k)))) (union-lt 6 (places 64 w) (below-places 64 w))
       (λ k l. ap digit (bit-union (places 64 w) k
-      ∙ any-ext (λ m. bit m k) (bit (flagWord k)) (places 64 w) (λ m e. sym (bit-flagWord k m l (below-mem 64 (places 64 w) m (below-places 64 w) e)))
+      ∙ any-ext (λ m. bit m k) (bit (flagWord k)) (places 64 w) (λ m e. sym (bit-flagWord k m l (places-lt 64 w m e)))
       ∙ any-bit 64 w (flagWord k) h))
 
 pub singles-lt : (w : ℕ) → singles (places 64 w) < 64

@@ -1,6 +1,6 @@
 -- The partial OR on a form's word: which masks may be chosen, by tests of words, and the choice one mask after the other.
--- It rests on the laws of words as sets of places (bits, Sets), on the tables' entries (Entries), on the saving by flags (Saving) and on a mask's
--- nonempty subsets (rules, Family). Assumes nothing.
+-- It rests on the laws of words as sets of places (bits, Sets), on the tables' entries (Entries), on the saving by flags (Saving), on a mask's
+-- nonempty subsets and on a form's monomials (rules, Family and Covered). Assumes nothing.
 --   partial-few, partial-missing, partial-whole == a mask fails: it has fewer than two flags, a subset is missing, or its subsets are all monomials
 --   partial-true                                == a mask passes
 --   partial-within                              == its flags are single-flag monomials
@@ -23,13 +23,14 @@ use Rattle.bits.specs.Word.{places, word}
 use Rattle.bits.proofs.Truth.{and-intro, and-true-l, and-true-r, and-implied}
 use Rattle.bits.proofs.Mask.{bits-within, within-le, within-pow, ones-sub, ones-pos}
 use Rattle.bits.proofs.Range.{keep-keep, keep-ext, mem-keep, all-mem, all-ext}
-use Rattle.bits.proofs.Ascending.{ascending-keep, below-mem}
-use Rattle.bits.proofs.Word.{ascending-places, below-places, ones-places}
+use Rattle.bits.proofs.Ascending.{ascending-keep}
+use Rattle.bits.proofs.Word.{ascending-places, places-lt, ones-places}
 use Rattle.bits.proofs.Places.{places-and}
 use Rattle.bits.proofs.Sets.{mem-bit, places-even, all-bit}
 use Rattle.bits.proofs.Union.{bit-union-singles}
 use Rattle.rules.specs.Cleanup.{family, singles, isPartial, bestFamily, greatest}
 use Rattle.rules.specs.Monomial.{monomials}
+use Rattle.rules.proofs.Covered.{monomial-mem}
 use Rattle.rules.proofs.Family.{mem-family}
 use Rattle.form.specs.Chosen.{chosen}
 use Rattle.form.specs.Masks.{familyWords}
@@ -122,10 +123,10 @@ module _ (w : ℕ) where
   s = word (family (singles l))
 
   positive : (m : ℕ) → mem m (monomials l) ≡ true → ltb 0 m ≡ true
-  positive m e = and-true-r (mem m l) (ltb 0 m) (sym (mem-keep (ltb 0) l m) ∙ e)
+  positive m e = lt-ltb 0 m (monomial-mem l m e .0)
 
   small : (m : ℕ) → mem m (monomials l) ≡ true → m < 64
-  small m e = below-mem 64 l m (below-places 64 w) (and-true-l (mem m l) (ltb 0 m) (sym (mem-keep (ltb 0) l m) ∙ e))
+  small m e = places-lt 64 w m (monomial-mem l m e .1)
 
   candidates : keep p (places 64 (bitAnd v s)) ≡ keep p (monomials l)
   candidates =

@@ -7,7 +7,7 @@
 --   uncovered-word, without-word                 == the masks that do not contain a cube, and those outside a family
 --   stripped-word                                == those that contain a cube, stripped
 --   covered-literals                             == the literals of the monomials that contain a cube
-use mathlib.Core.Bool.{Bool, true, not, _&&_, and-comm}
+use mathlib.Core.Bool.{Bool, not, _&&_, and-comm}
 use mathlib.Core.List.{List, [], _∷_, map}
 use mathlib.Core.Path.{_≡_, sym, ap, _∙_}
 use Prim.Native.Nat.{ℕ, _-_, _*_, _/_, _%_, _^_, _<_}
@@ -23,8 +23,7 @@ use Rattle.bits.specs.Word.{places, word}
 use Rattle.bits.proofs.Bit.{digit-bit}
 use Rattle.bits.proofs.Mask.{within-le}
 use Rattle.bits.proofs.Range.{keep-ext, keep-keep}
-use Rattle.bits.proofs.Ascending.{below-mem}
-use Rattle.bits.proofs.Word.{below-places, ones-places}
+use Rattle.bits.proofs.Word.{places-lt, ones-places}
 use Rattle.bits.proofs.Places.{places-and}
 use Rattle.bits.proofs.Sets.{mem-bit, places-and-not, places-even, places-shr, places-positive, places-two, same-places}
 use Rattle.rules.specs.Cleanup.{family, singles, isFamily, covered, stripped}
@@ -37,39 +36,35 @@ use Rattle.form.specs.Masks.{familyWords, supersetWords}
 use Rattle.form.proofs.Entries.{getD-families, getD-supersets, bit-family, below-family, family-lt, bit-superset, superset-lt}
 use Rattle.form.proofs.Flags.{singles-lt}
 
-module _ (w : ℕ) where
-  in-word : (m : ℕ) → mem m (places 64 w) ≡ true → m < 64
-  in-word m e = below-mem 64 (places 64 w) m (below-places 64 w) e
+module _ (w c : ℕ) (k : c < 64) where
+  pub uncovered-word : places 64 (bitAnd w ((2 ^ 64 - 1) - getD supersetWords c 0)) ≡ keep (λ m. not (within c m)) (places 64 w)
+  uncovered-word =
+      let v = word (keep (within c) (upto 64)) in
+      ap (λ (x : ℕ). places 64 (bitAnd w ((2 ^ 64 - 1) - x))) (getD-supersets c k) ∙ places-and-not 64 w v (superset-lt c)
+      ∙ keep-ext (λ m. not (bit v m)) (λ m. not (within c m)) (places 64 w) (λ m e. ap not (bit-superset c m (places-lt 64 w m e)))
 
-  module _ (c : ℕ) (k : c < 64) where
-    pub uncovered-word : places 64 (bitAnd w ((2 ^ 64 - 1) - getD supersetWords c 0)) ≡ keep (λ m. not (within c m)) (places 64 w)
-    uncovered-word =
-        let v = word (keep (within c) (upto 64)) in
-        ap (λ (x : ℕ). places 64 (bitAnd w ((2 ^ 64 - 1) - x))) (getD-supersets c k) ∙ places-and-not 64 w v (superset-lt c)
-        ∙ keep-ext (λ m. not (bit v m)) (λ m. not (within c m)) (places 64 w) (λ m e. ap not (bit-superset c m (in-word m e)))
+  containing-word : places 64 (bitAnd w (getD supersetWords c 0)) ≡ keep (λ m. within c m) (places 64 w)
+  containing-word =
+      let v = word (keep (within c) (upto 64)) in
+      ap (λ (x : ℕ). places 64 (bitAnd w x)) (getD-supersets c k) ∙ places-and 64 w v
+      ∙ keep-ext (bit v) (λ m. within c m) (places 64 w) (λ m e. bit-superset c m (places-lt 64 w m e))
 
-    containing-word : places 64 (bitAnd w (getD supersetWords c 0)) ≡ keep (λ m. within c m) (places 64 w)
-    containing-word =
-        let v = word (keep (within c) (upto 64)) in
-        ap (λ (x : ℕ). places 64 (bitAnd w x)) (getD-supersets c k) ∙ places-and 64 w v
-        ∙ keep-ext (bit v) (λ m. within c m) (places 64 w) (λ m e. bit-superset c m (in-word m e))
+  -- the constant, which a cube of no flag covers too, has no literal
+  pub covered-literals : literals (places 64 (bitAnd w (getD supersetWords c 0))) ≡ literals (covered c (places 64 w))
+  unfolding covered
+  covered-literals =
+      let l = places 64 w in
+      ap literals containing-word ∙ sym (literals-monomials (keep (λ m. within c m) l))
+      ∙ ap literals
+      (keep-keep (λ m. ltb 0 m) (λ m. within c m) l
+      ∙ keep-ext (λ m. within c m && ltb 0 m) (λ m. ltb 0 m && within c m) l (λ m e. and-comm (within c m) (ltb 0 m))
+      ∙ sym (keep-keep (λ m. within c m) (λ m. ltb 0 m) l))
 
-    -- the constant, which a cube of no flag covers too, has no literal
-    pub covered-literals : literals (places 64 (bitAnd w (getD supersetWords c 0))) ≡ literals (covered c (places 64 w))
-    unfolding covered
-    covered-literals =
-        let l = places 64 w in
-        ap literals containing-word ∙ sym (literals-monomials (keep (λ m. within c m) l))
-        ∙ ap literals
-        (keep-keep (λ m. ltb 0 m) (λ m. within c m) l
-        ∙ keep-ext (λ m. within c m && ltb 0 m) (λ m. ltb 0 m && within c m) l (λ m e. and-comm (within c m) (ltb 0 m))
-        ∙ sym (keep-keep (λ m. within c m) (λ m. ltb 0 m) l))
-
-    pub without-word : places 64 (bitAnd w ((2 ^ 64 - 1) - getD familyWords c 0)) ≡ keep (λ m. not (mem m (family c))) (places 64 w)
-    without-word =
-        let v = word (family c) in
-        ap (λ (x : ℕ). places 64 (bitAnd w ((2 ^ 64 - 1) - x))) (getD-families c k) ∙ places-and-not 64 w v (family-lt c k)
-        ∙ keep-ext (λ m. not (bit v m)) (λ m. not (mem m (family c))) (places 64 w) (λ m e. ap not (bit-family c m))
+  pub without-word : places 64 (bitAnd w ((2 ^ 64 - 1) - getD familyWords c 0)) ≡ keep (λ m. not (mem m (family c))) (places 64 w)
+  without-word =
+      let v = word (family c) in
+      ap (λ (x : ℕ). places 64 (bitAnd w ((2 ^ 64 - 1) - x))) (getD-families c k) ∙ places-and-not 64 w v (family-lt c k)
+      ∙ keep-ext (λ m. not (bit v m)) (λ m. not (mem m (family c))) (places 64 w) (λ m e. ap not (bit-family c m))
 
 module _ (w : ℕ) (h : w < 2 ^ 64) where
   pub constant-word : w % 2 ≡ digit (constant (places 64 w))

@@ -10,7 +10,8 @@ use native.Mathlib.Omega.{arith}
 use lib.Dec.{eqb}
 use mir.Val.{boolByte}
 use Rattle.rules.specs.Ascii.{ascii}
-use Rattle.expr.specs.Answers.{kindOf, IndexBelow}
+use Rattle.rules.specs.Record.{FlagBelow}
+use Rattle.expr.specs.Answers.{kindOf}
 use Rattle.expr.specs.declared.Kind.{Kind}
 use Rattle.expr.proofs.Values.{byte-digit}
 use Rattle.rule_text.specs.Parts.{kindText}
@@ -41,8 +42,8 @@ module _ (k : Kind) where
   unfolding kindText ascii
   text-not e = ap (λ (j : Kind). kindText (kindOf j)) e
 
-  pub variable-small : (i n : ℕ) → k ≡ Kind.Variable i → IndexBelow n (kindOf k) → i < n
-  variable-small i n e h = subst (λ (j : Kind). IndexBelow n (kindOf j)) e h
+  pub variable-small : (i n : ℕ) → k ≡ Kind.Variable i → FlagBelow n (kindOf k) → i < n
+  variable-small i n e h = subst (λ (j : Kind). FlagBelow n (kindOf j)) e h
 
 pub constant-small : (b : Bool) → boolByte b < 2
 constant-small true = omega arith

@@ -14,7 +14,6 @@ use mathlib.Core.Path.{_≡_, refl, sym, ap, subst, _∙_}
 use Prim.Native.Nat.{ℕ, zero, suc, _+_, _≤_, _<_}
 use native.Mathlib.Omega.{arith}
 use lib.ListN.{length, drop, length-append, length-drop}
-use lib.Seq.{drop-drop, drop-append-seam}
 use denote.Enum.Declared.{tagOf}
 use Rattle.bits.specs.Range.{Below}
 use Rattle.bits.proofs.Every.{Every}
@@ -23,11 +22,11 @@ use Rattle.rules.specs.Calls.{read}
 use Rattle.rules.specs.Limits.{ruleFlags}
 use Rattle.rules.specs.Machine.{made, WellFormed}
 use Rattle.rules.specs.Outcome.{gives}
-use Rattle.rules.specs.Record.{Kind, Found, recordAt}
+use Rattle.rules.specs.Record.{Kind, FlagBelow, Found, recordAt}
 use Rattle.rules.specs.Text.{records}
 use Rattle.rules.specs.Tree.{Tree}
 use Rattle.rules.proofs.Outcome.{gives-same}
-use Rattle.rules.proofs.RecordAt.{bytesOf, bytesOf-long, FlagBelow, record-at}
+use Rattle.rules.proofs.RecordAt.{bytesOf, bytesOf-long, drop-past, record-at}
 use Rattle.rules.proofs.WellFormed.{made-is}
 use Rattle.expr.specs.Answers.{readingOf}
 use Rattle.expr.specs.declared.Reading.{Reading}
@@ -69,9 +68,6 @@ pub record Left (n : ℕ) (s text : List ℕ) (at place next : ℕ) (out now : L
   pub done : List ℕ
   pub put : Put done at next out now
   pub whole : done ++ after place rest ≡ text
-
-drop-past : (s : List ℕ) (p : ℕ) (x b : List ℕ) → drop p s ≡ x ++ b → drop (p + length x) s ≡ b
-drop-past s p x b e = sym (drop-drop (length x) p s) ∙ ap (drop (length x)) e ∙ drop-append-seam x b
 
 module _ (n : ℕ) (s : List ℕ) where
   start-of : (t : Tree) → Below 256 s → made n s ≡ gives t → (at : ℕ) (out : List ℕ) → at ≤ length out → Left n s (records t) at 0 at out out

@@ -14,10 +14,10 @@ use lib.ListN.{length, length-append}
 use lib.Seq.{append-snoc}
 use Rattle.bits.proofs.Every.{Every, every-append}
 use Rattle.rules.specs.Ascii.{ascii}
-use Rattle.rules.specs.Record.{Kind, Constant, Flag, And, Or, Xor, Not}
+use Rattle.rules.specs.Record.{Kind, Constant, Flag, And, Or, Xor, Not, FlagBelow}
 use Rattle.rules.specs.Text.{records}
 use Rattle.rules.specs.Tree.{Tree, CO, VA, AN, OR, XO, NO, size, write, FlagsBelow}
-use Rattle.rules.proofs.RecordAt.{bytesOf, FlagBelow}
+use Rattle.rules.proofs.RecordAt.{bytesOf}
 use Rattle.rule_text.specs.Parts.{kindText}
 
 unfoldable pub kinds : Tree → List Kind

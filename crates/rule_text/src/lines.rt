@@ -5,13 +5,14 @@ ghost use Prim.Native.Nat.{_≤_};
 ghost use lib.ListN.{length};
 ghost use Rattle.rules.specs.Limits.{ruleFlags};
 ghost use Rattle.rules.specs.Machine.{made, WellFormed};
-ghost use Rattle.expr.specs.Answers.{kindOf, IndexBelow};
+ghost use Rattle.rules.specs.Record.{FlagBelow};
+ghost use Rattle.expr.specs.Answers.{kindOf};
 ghost use Rattle.text.specs.Put.{Room, Put};
 ghost use Rattle.rule_text.specs.Parts.{gap, kindText, shown, firstLine, lastLine, lines, Printable};
 
 // A record's mark, and its payload as a digit.
 fn put_kind(kind: Kind, out: &mut [u8], at: usize) -> usize
-    requires { ⌜ IndexBelow 10 (kindOf kind) × Room (kindText (kindOf kind)) at (now out) ⌝ }
+    requires { ⌜ FlagBelow 10 (kindOf kind) × Room (kindText (kindOf kind)) at (now out) ⌝ }
     ensures { λ r. ⌜ Put (kindText (kindOf kind)) at r (now (out .entry)) (now (out .exit)) ⌝ }
 {
     match kind {

@@ -1,29 +1,33 @@
 -- The parts of a form: its constant and its monomials, what a cube covers and what is left, and a family in it.
 -- It rests on the laws of masks, ascending lists and sums (bits), and on the family's members (Family). Assumes nothing.
 --   on b l, form-split, parity-constant  == a form is its constant on its monomials
+--   monomial-mem, pair-order             == a monomial is a mask of the form other than 0; two monomials ascend from 1 on
 --   covered-keep, mem-covered, covered-within == the masks that contain a cube
+--   covered-occurs                       == the flags of a cube that covers a monomial occur
 --   ascending-covered, ascending-stripped == covered and stripped monomials ascend
 --   parity-covered                       == the cube is a common factor
 --   parity-uncovered, parity-without     == the form in two parts: along a cube, along a family
 --   keep-family                          == a form that has all of a family, restricted to it
 use mathlib.Core.Bool.{Bool, true, false, not, _&&_}
 use mathlib.Core.List.{List, [], _∷_}
-use mathlib.Core.Path.{_≡_, refl, sym, ap, ap₂, _∙_}
+use mathlib.Core.Path.{_≡_, refl, sym, ap, ap₂, subst, _∙_}
 use mathlib.Mathlib.Data.Bool.Basic.{eq-false-of-not-eq-true}
 use Prim.Native.Nat.{ℕ, zero, suc, _-_, _<_}
 use native.Mathlib.Nat.{zero-lt-suc}
 use native.Mathlib.Omega.{arith}
 use lib.Bits.{bitAnd}
 use lib.Dec.{ltb}
-use borrow.Author.Tests.{lt-ltb}
+use lib.ListN.{length}
+use borrow.Author.Tests.{ltb-true, lt-ltb}
 use Rattle.bits.specs.Bit.{_⊕_, within}
 use Rattle.bits.specs.Range.{keep, all, any, mem, After, Ascending}
-use Rattle.bits.specs.Sum.{sum, parity}
-use Rattle.bits.proofs.Truth.{and-true-r, and-implied}
-use Rattle.bits.proofs.Mask.{within-le, within-zero, within-split}
-use Rattle.bits.proofs.Range.{keep-all, keep-keep, keep-ext, mem-all, mem-keep, all-mem}
+use Rattle.bits.specs.Sum.{sum, parity, union}
+use Rattle.bits.proofs.Truth.{and-true-l, and-true-r, and-implied}
+use Rattle.bits.proofs.Mask.{within-le, within-zero, within-trans, within-split}
+use Rattle.bits.proofs.Range.{keep-all, keep-keep, keep-ext, mem-all, mem-keep, mem-head, mem-some, all-mem}
 use Rattle.bits.proofs.Ascending.{after-mem, ascending-keep, ascending-map, ascending-ext}
 use Rattle.bits.proofs.Sum.{xor-laws, sum-map, sum-ext-mem, sum-split, parity-and}
+use Rattle.bits.proofs.Union.{union-mem}
 use Rattle.rules.specs.Cleanup.{family, covered, stripped}
 use Rattle.rules.specs.Monomial.{constant, monomials}
 use Rattle.rules.proofs.Family.{ascending-family, parity-family}
@@ -55,6 +59,16 @@ parity-constant l s a = ap (parity (λ m. within m s)) (form-split l a) ∙ go (
     go true k = ap (λ (b : Bool). b ⊕ parity (λ m. within m s) k) (within-zero s)
     go false k = refl
 
+pub monomial-mem : (l : List ℕ) (m : ℕ) → mem m (monomials l) ≡ true → (0 < m) × (mem m l ≡ true)
+monomial-mem l m e =
+    let both = sym (mem-keep (λ x. ltb 0 x) l m) ∙ e in
+    (ltb-true 0 m (and-true-r (mem m l) (ltb 0 m) both), and-true-l (mem m l) (ltb 0 m) both)
+
+pub pair-order : (l : List ℕ) → Ascending l → (m o : ℕ) → monomials l ≡ m ∷ o ∷ [] → (0 < m) × (m < o)
+pair-order l a m o e =
+    let up : Ascending (m ∷ o ∷ []) = subst Ascending e (ascending-keep (λ x. ltb 0 x) l a) in
+    (monomial-mem l m (ap (mem m) e ∙ mem-head m (o ∷ [])) .0, up .0)
+
 -- ---- a cube
 
 module _ (c : ℕ) (p : 0 < c) (l : List ℕ) where
@@ -75,6 +89,12 @@ module _ (c : ℕ) (l : List ℕ) where
 
   pub covered-within : (m : ℕ) → mem m (covered c l) ≡ true → within c m ≡ true
   covered-within m e = and-true-r (mem m (monomials l)) (within c m) (sym (mem-covered m) ∙ e)
+
+  pub covered-occurs : 0 < length (covered c l) → within c (union l) ≡ true
+  covered-occurs h =
+      let (m, here) = mem-some (covered c l) h in
+      let monomial = and-true-l (mem m (monomials l)) (within c m) (sym (mem-covered m) ∙ here) in
+      within-trans c m (union l) (covered-within m here) (union-mem l m (monomial-mem l m monomial .1))
 
   pub parity-covered : (s : ℕ) → parity (λ m. within m s) (covered c l) ≡ (within c s && parity (λ m. within m s) (stripped c l))
   unfolding stripped

@@ -27,7 +27,7 @@ use Rattle.bits.proofs.Mask.{ones-pos}
 use Rattle.bits.proofs.Range.{keep-keep, keep-ext, keep-none, mem-all, mem-head, mem-tail, mem-append, mem-keep}
 use Rattle.bits.proofs.Ascending.{ascending-keep, below-keep, below-mem}
 use Rattle.rules.specs.Monomial.{constant, monomials, precedes, ordered}
-use Rattle.rules.proofs.Covered.{on, form-split}
+use Rattle.rules.proofs.Covered.{on, form-split, monomial-mem}
 use Rattle.rules.proofs.Ordered.{precedes-less, precedes-equal, Follows, Sorted, ordered-unique}
 
 -- ---- sorted lists, joined
@@ -117,14 +117,11 @@ module _ (l : List ℕ) where
 -- ---- monomials
 
 module _ (l : List ℕ) where
-  positive : (m : ℕ) → mem m (monomials l) ≡ true → 0 < m
-  positive m h = ltb-true 0 m (and-true-r (mem m l) (ltb 0 m) (sym (mem-keep (λ x. ltb 0 x) l m) ∙ h))
-
   pub degrees-one : degrees (monomials l) 1 ≡ []
   unfolding degrees
   degrees-one =
       keep-none (λ m. eqb (ones m) 0) (monomials l)
-      (mem-all _ (monomials l) (λ m h. ap not (ne-eqb (ones m) 0 (λ e. omega (arith, ones-pos m (positive m h))))))
+      (mem-all _ (monomials l) (λ m h. ap not (ne-eqb (ones m) 0 (λ e. omega (arith, ones-pos m (monomial-mem l m h .0))))))
 
   pub degrees-suc : (d : ℕ) → 0 < d → degrees (monomials l) (suc d) ≡ degrees (monomials l) d ++ keep (λ m. eqb (ones m) d) l
   unfolding degrees ones

@@ -1,24 +1,26 @@
 -- The nonempty subsets of a mask: which they are, and that those within a setting are odd in number exactly if the mask and the setting share a flag.
 -- It rests on the exclusive or over subsets (Mobius) and on the laws of masks and ascending lists (bits). Assumes nothing.
 --   mem-family, ascending-family     == the members of the family of u; they ascend
+--   family-own, family-other         == a mask is in its own family, and if it has two flags or more so is another
 --   coefficient-one, coefficient-any == the coefficients of the constant 1, and of "some flag is set"
 --   parity-family                    == the polynomial with the family of u for monomials is the OR of u's flags
 use mathlib.Core.Bool.{Bool, true, false, not, _&&_, and-assoc, and-comm, and-true, and-false}
 use mathlib.Core.List.{List}
 use mathlib.Core.Path.{_≡_, refl, sym, ap, ap₂, _∙_}
-use Prim.Native.Nat.{ℕ, zero, suc, _+_, _-_, _^_, _<_}
+use Prim.Native.Nat.{ℕ, zero, suc, _+_, _-_, _^_, _≤_, _<_}
 use native.Mathlib.Nat.{lt-of-le-of-lt, zero-lt-suc}
 use native.Mathlib.Omega.{arith}
 use lib.Bits.{bitAnd, and-le-l}
+use lib.Count.{ones}
 use lib.Dec.{ltb, leb, eqb, eqb·suc-zero}
 use lib.Pow.{pow-pos}
 use borrow.Author.Tests.{leb-true, lt-ltb, ne-eqb}
 use Rattle.bits.specs.Bit.{_⊕_, within}
 use Rattle.bits.specs.Range.{from, upto, keep, mem, Ascending}
 use Rattle.bits.specs.Sum.{sum, parity}
-use Rattle.bits.proofs.Truth.{and-true-l, and-true-r, and-implied, xor-comm, xor-false}
-use Rattle.bits.proofs.Bit.{lt-pow}
-use Rattle.bits.proofs.Mask.{within-le, within-zero, within-and}
+use Rattle.bits.proofs.Truth.{and-intro, and-true-l, and-true-r, and-implied, xor-comm, xor-false}
+use Rattle.bits.proofs.Bit.{lt-pow, nonzero-bit}
+use Rattle.bits.proofs.Mask.{within-le, within-zero, within-refl, within-pow, within-and, ones-pow}
 use Rattle.bits.proofs.Range.{mem-keep, mem-from, mem-upto}
 use Rattle.bits.proofs.Ascending.{ascending-from, ascending-keep, ascending-ext}
 use Rattle.bits.proofs.Sum.{xor-laws, sum-ext, sum-ext-mem, sum-unit, parity-keep}
@@ -34,6 +36,16 @@ unfolding family
 mem-family m u =
     mem-keep (λ x. within x u) (from 1 u) m ∙ ap (λ (b : Bool). b && within m u) (mem-from 1 u m)
     ∙ and-assoc (ltb 0 m) (ltb m (1 + u)) (within m u) ∙ ap (λ (b : Bool). ltb 0 m && b) (and-implied _ _ (less m u (1 + u) (omega arith)))
+
+pub family-own : (m : ℕ) → 0 < m → mem m (family m) ≡ true
+family-own m p = mem-family m m ∙ and-intro _ _ (lt-ltb 0 m p) (within-refl m)
+
+-- one of its flags
+pub family-other : (m : ℕ) → 2 ≤ ones m → 0 < m → (s : ℕ) × (mem s (family m) ≡ true) × (m ≡ s → ⊥)
+family-other m h p =
+    let (i, k, b) = nonzero-bit m m (lt-pow m) p in
+    let flag = mem-family (2 ^ i) m ∙ and-intro _ _ (lt-ltb 0 (2 ^ i) (pow-pos i)) (within-pow i m ∙ b) in
+    (2 ^ i, flag, λ e. omega (arith, ap ones e, ones-pow i))
 
 pub ascending-family : (u : ℕ) → Ascending (family u)
 unfolding family

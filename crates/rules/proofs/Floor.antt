@@ -2,11 +2,12 @@
 -- the cleaned form of a form in which k flags occur. It rests on the flags that a tree names (Mentioned), on the costs of OR chains (Cost) and on the
 -- sizes of masks (bits, Mask). Assumes nothing.
 --   floor k, floor-orChain           == the floor of k flags; it is the cost of their OR chain
+--   floor-le, floor-ge, floor-double == it is k or one more, and for a flag or more below twice k
 --   cost-floor                       == a tree costs at least the floor of the flags that it names
---   floor-cleanup, chain-cleanup     == so does the cleaned form: it costs no less than the OR chain of the flags that occur
+--   floor-cleanup                    == so does the cleaned form, of the flags that occur
 use mathlib.Core.List.{List}
 use mathlib.Core.Path.{_≡_, refl, sym, subst}
-use Prim.Native.Nat.{ℕ, zero, suc, _+_, _≤_}
+use Prim.Native.Nat.{ℕ, zero, suc, _+_, _*_, _≤_}
 use native.Mathlib.Nat.{le-refl, le-trans}
 use native.Mathlib.Omega.{arith}
 use lib.Count.{ones}
@@ -29,6 +30,18 @@ unfolding floor
 floor-le zero = le-refl 1
 floor-le (suc zero) = omega arith
 floor-le (suc (suc k)) = le-refl (suc (suc (suc k)))
+
+pub floor-ge : (k : ℕ) → k ≤ floor k
+unfolding floor
+floor-ge zero = omega arith
+floor-ge (suc zero) = le-refl 1
+floor-ge (suc (suc k)) = omega arith
+
+pub floor-double : (k : ℕ) → 1 ≤ k → floor k + 1 ≤ 2 * k
+unfolding floor
+floor-double zero h = absurd (omega arith)
+floor-double (suc zero) h = omega arith
+floor-double (suc (suc k)) h = omega arith
 
 pub floor-orChain : (m : ℕ) → floor (ones m) ≡ cost (orChain m)
 unfolding floor
@@ -58,9 +71,5 @@ cost-floor (OR x y) = le-trans (floor-le (ones (mentioned (OR x y)))) (omega (ar
 cost-floor (XO x y) = le-trans (floor-le (ones (mentioned (XO x y)))) (omega (arith, ones-or (mentioned x) (mentioned y), named x, named y))
 cost-floor (NO x) = le-trans (floor-le (ones (mentioned x))) (omega (arith, named x))
 
-module _ (l : List ℕ) (a : Ascending l) where
-  pub floor-cleanup : floor (ones (union l)) ≤ cost (cleanup l)
-  floor-cleanup = subst (λ (m : ℕ). floor (ones m) ≤ cost (cleanup l)) (mentioned-cleanup l a) (cost-floor (cleanup l))
-
-  pub chain-cleanup : cost (orChain (union l)) ≤ cost (cleanup l)
-  chain-cleanup = subst (λ (n : ℕ). n ≤ cost (cleanup l)) (floor-orChain (union l)) floor-cleanup
+pub floor-cleanup : (l : List ℕ) → Ascending l → floor (ones (union l)) ≤ cost (cleanup l)
+floor-cleanup l a = subst (λ (m : ℕ). floor (ones m) ≤ cost (cleanup l)) (mentioned-cleanup l a) (cost-floor (cleanup l))

@@ -8,8 +8,7 @@ use mathlib.Core.Bool.{Bool, true, false, not, _&&_}
 use mathlib.Core.List.{List, [], _∷_}
 use mathlib.Core.Path.{_≡_, refl, sym, ap, subst, _∙_}
 use mathlib.Mathlib.Data.Bool.Basic.{eq-false-of-not-eq-true}
-use Prim.Native.Nat.{ℕ, zero, suc, _+_, _-_, _*_, _≤_, _<_}
-use native.Mathlib.Nat.{le-refl}
+use Prim.Native.Nat.{ℕ, _+_, _-_, _*_, _≤_, _<_}
 use native.Mathlib.Omega.{arith}
 use lib.Bits.{bitOr, or-zero-r}
 use lib.Count.{ones}
@@ -22,38 +21,20 @@ use Rattle.bits.specs.Sum.{sum, union}
 use Rattle.bits.proofs.Ascending.{ascending-keep}
 use Rattle.bits.proofs.Bit.{digit-le}
 use Rattle.bits.proofs.Fixed.{fixed-ind}
-use Rattle.bits.proofs.Mask.{ones-pos, ones-sub, ones-or, zero-within}
-use Rattle.bits.proofs.Range.{mem-head, mem-keep}
-use Rattle.bits.proofs.Truth.{and-true-l, and-true-r}
+use Rattle.bits.proofs.Mask.{zero-ones, ones-pos, ones-sub, ones-or, zero-within, or-within}
+use Rattle.bits.proofs.Range.{mem-keep}
 use Rattle.rules.specs.Cleanup.{family, atop, singles, covered, stripped, withRest, turn, cleanup}
-use Rattle.rules.specs.Form.{cube, orChain, rawForm, rawCost, literals}
+use Rattle.rules.specs.Form.{cube, orChain, rawForm, literals}
 use Rattle.rules.specs.Monomial.{constant, monomials}
 use Rattle.rules.specs.Tree.{Tree, AN, XO, NO, cost}
 use Rattle.rules.proofs.Cost.{cost-pos, cost-cube, cost-orChain, cost-rawForm, termCost-suc, raw-literals}
-use Rattle.rules.proofs.Covered.{ascending-stripped}
+use Rattle.rules.proofs.Covered.{monomial-mem, pair-order, ascending-stripped}
 use Rattle.rules.proofs.Family.{mem-family}
-use Rattle.rules.proofs.Floor.{floor, floor-le, floor-orChain, floor-cleanup}
+use Rattle.rules.proofs.Floor.{floor, floor-le, floor-ge, floor-double, floor-orChain, floor-cleanup}
 use Rattle.rules.proofs.Literals.{literals-uncovered, literals-without}
-use Rattle.rules.proofs.Mentioned.{or-within, union-monomials, union-family, union-without, union-covered}
+use Rattle.rules.proofs.Mentioned.{union-monomials, union-family, union-without, union-covered}
 use Rattle.rules.proofs.Recursion.{cleanup-turn}
 use Rattle.rules.proofs.Turn.{Partial, Common, turn-ind}
-
-floor-ge : (k : ℕ) → k ≤ floor k
-unfolding floor
-floor-ge zero = omega arith
-floor-ge (suc zero) = le-refl 1
-floor-ge (suc (suc k)) = omega arith
-
-floor-double : (k : ℕ) → 1 ≤ k → floor k + 1 ≤ 2 * k
-unfolding floor
-floor-double zero h = absurd (omega arith)
-floor-double (suc zero) h = omega arith
-floor-double (suc (suc k)) h = omega arith
-
-ones-none : (m : ℕ) → m ≤ 0 → ones m ≡ 0
-unfolding ones
-ones-none zero h = refl
-ones-none (suc m) h = absurd (omega arith)
 
 pub constant-keep : (p : ℕ → Bool) (l : List ℕ) → p 0 ≡ true → constant (keep p l) ≡ constant l
 constant-keep p l h = mem-keep p l 0 ∙ go (mem 0 l) (p 0) h
@@ -112,11 +93,11 @@ module _ (l : List ℕ) (a : Ascending l) (o : 0 < union l)
     where
       go : (z : Bool) → ltb 0 (union x) ≡ z → ones (union x) + 2 * digit (constant l) ≤ cost (cleanup x) + 1
       go true q = omega (arith, h x less s (ltb-true 0 (union x) q), ap digit e, floor-ge (ones (union x)))
-      go false q = omega (arith, ones-none (union x) (ltb-false 0 (union x) q), digit-le (constant l), cost-pos (cleanup x))
+      go false q = omega (arith, zero-ones (union x) (ltb-false 0 (union x) q), digit-le (constant l), cost-pos (cleanup x))
 
   least-part : (m : ℕ) → Partial l m → Least (XO (orChain m) (cleanup (keep (λ x. not (mem x (family m))) l)))
   least-part m u =
-      let less = literals-without m l (u .nonzero) (and-true-l (mem m l) (ltb 0 m) (sym (mem-keep (λ x. ltb 0 x) l m) ∙ u .monomial)) in
+      let less = literals-without m l (u .nonzero) (monomial-mem l m (u .monomial) .1) in
       least-joined (orChain m) m (keep (λ x. not (mem x (family m))) l) (omega (arith, cost-orChain m (u .several))) less
       (ascending-keep (λ x. not (mem x (family m))) l a) (constant-keep (λ x. not (mem x (family m))) l (ap not (mem-family 0 m)))
       (union-without m l a (u .nonzero) (u .subsets))
@@ -162,8 +143,7 @@ module _ (l : List ℕ) (a : Ascending l) (o : 0 < union l)
   least-absorbed : (m o : ℕ) → monomials l ≡ m ∷ o ∷ [] → within m o ≡ true → Least (atop (constant l) (AN (cube m) (NO (cube (o - m)))))
   unfolding cost sum
   least-absorbed m n e w =
-      let up : Ascending (m ∷ n ∷ []) = subst Ascending e (ascending-keep (ltb 0) l a) in
-      let p : 0 < m = ltb-true 0 m (and-true-r (mem m l) (ltb 0 m) (sym (mem-keep (ltb 0) l m) ∙ ap (mem m) e ∙ mem-head m (n ∷ []))) in
+      let (p, up) = pair-order l a m n e in
       let u : union l ≡ n = union-monomials l a ∙ ap union e ∙ ap (bitOr m) (or-zero-r n) ∙ or-within m n w in
       least-atop (AN (cube m) (NO (cube (n - m))))
       (omega (

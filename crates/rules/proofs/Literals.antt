@@ -12,11 +12,11 @@ use native.Mathlib.Omega.{arith}
 use lib.Count.{ones}
 use lib.Dec.{ltb}
 use lib.ListN.{length}
-use borrow.Author.Tests.{lt-ltb, ltb-false, not-true}
+use borrow.Author.Tests.{ltb-false, not-true}
 use Rattle.bits.specs.Bit.{within}
 use Rattle.bits.specs.Range.{keep, mem}
 use Rattle.bits.proofs.Truth.{and-intro, and-true-r}
-use Rattle.bits.proofs.Mask.{within-refl, ones-sub, ones-pos}
+use Rattle.bits.proofs.Mask.{ones-sub, zero-ones, ones-pos}
 use Rattle.bits.proofs.Range.{mem-keep}
 use Rattle.bits.proofs.Sum.{plus-laws, sum-map, sum-ext-mem, sum-op, sum-unit, sum-split}
 use Rattle.bits.proofs.Total.{total-const, total-mem}
@@ -24,26 +24,22 @@ use Rattle.rules.specs.Cleanup.{family, covered, stripped}
 use Rattle.rules.specs.Form.{literals}
 use Rattle.rules.specs.Monomial.{monomials}
 use Rattle.rules.proofs.Covered.{covered-keep, covered-within}
-use Rattle.rules.proofs.Family.{mem-family}
+use Rattle.rules.proofs.Family.{family-own}
 
 pub literals-split : (p : ℕ → Bool) (l : List ℕ) → literals l ≡ literals (keep p l) + literals (keep (λ m. not (p m)) l)
 literals-split p l = sum-split plus-laws ones p l
 
 pub literals-monomials : (l : List ℕ) → literals (monomials l) ≡ literals l
-unfolding ones
 literals-monomials l = omega (arith, literals-split (λ m. ltb 0 m) l, none)
   where
     zeros : List ℕ
     zeros = keep (λ m. not (ltb 0 m)) l
 
-    zero-ones : (m : ℕ) → mem m zeros ≡ true → ones m ≡ 0
-    zero-ones m e =
-        let z = ltb-false 0 m (not-true (ltb 0 m) (and-true-r (mem m l) (not (ltb 0 m)) (sym (mem-keep (λ x. not (ltb 0 x)) l m) ∙ e))) in
-        let q : m ≡ 0 = omega arith in
-        ap ones q
+    at-zero : (m : ℕ) → mem m zeros ≡ true → m ≤ 0
+    at-zero m e = ltb-false 0 m (not-true (ltb 0 m) (and-true-r (mem m l) (not (ltb 0 m)) (sym (mem-keep (λ x. not (ltb 0 x)) l m) ∙ e)))
 
     none : literals zeros ≡ 0
-    none = sum-ext-mem _+_ 0 ones (λ m. 0) zeros zero-ones ∙ sum-unit plus-laws zeros
+    none = sum-ext-mem _+_ 0 ones (λ m. 0) zeros (λ m e. zero-ones m (at-zero m e)) ∙ sum-unit plus-laws zeros
 
 module _ (c : ℕ) (l : List ℕ) where
   pub literals-covered : literals (covered c l) ≡ literals (stripped c l) + length (covered c l) * ones c
@@ -70,6 +66,5 @@ module _ (c : ℕ) (l : List ℕ) where
 
 pub literals-without : (m : ℕ) (l : List ℕ) → 0 < m → mem m l ≡ true → literals (keep (λ x. not (mem x (family m))) l) < literals l
 literals-without m l p h =
-    let own : mem m (family m) ≡ true = mem-family m m ∙ and-intro _ _ (lt-ltb 0 m p) (within-refl m) in
-    let here = mem-keep (λ x. mem x (family m)) l m ∙ and-intro _ _ h own in
+    let here = mem-keep (λ x. mem x (family m)) l m ∙ and-intro _ _ h (family-own m p) in
     omega (arith, ones-pos m p, total-mem ones (keep (λ x. mem x (family m)) l) m here, literals-split (λ x. mem x (family m)) l)

@@ -20,23 +20,23 @@ use Rattle.bits.specs.Sum.{sum, union}
 use Rattle.bits.proofs.Ascending.{ascending-keep}
 use Rattle.bits.proofs.Bit.{bit-pow, bits-eq, lt-pow}
 use Rattle.bits.proofs.Fixed.{fixed-ind}
-use Rattle.bits.proofs.Mask.{within-le, within-refl, within-antisym, within-or, within-or-r, sub-disjoint}
-use Rattle.bits.proofs.Range.{any-map, any-ext, mem-all, mem-keep}
+use Rattle.bits.proofs.Mask.{within-le, within-refl, within-antisym, sub-disjoint, or-within}
+use Rattle.bits.proofs.Range.{any-map, any-ext, mem-all}
 use Rattle.bits.proofs.Sets.{mem-bit}
 use Rattle.bits.proofs.Sum.{or-laws, sum-map, sum-ext, sum-ext-mem, sum-append, sum-op, sum-split}
 use Rattle.bits.proofs.Union.{bit-union, union-within, union-mem}
-use Rattle.bits.proofs.Truth.{and-intro, and-true-l, and-true-r}
+use Rattle.bits.proofs.Truth.{and-true-r}
 use Rattle.rules.specs.Cleanup.{family, atop, singles, covered, stripped, withRest, turn, cleanup}
 use Rattle.rules.specs.Form.{flags, chain, cube, orChain, folded, rawForm, literals}
 use Rattle.rules.specs.Monomial.{constant, monomials, ordered}
 use Rattle.rules.specs.Tree.{Tree, CO, VA, AN, OR, XO, NO, mentioned}
-use Rattle.rules.proofs.Covered.{on, form-split, covered-keep, covered-within, ascending-stripped, keep-family}
-use Rattle.rules.proofs.Family.{mem-family}
+use Rattle.rules.proofs.Covered.{on, form-split, monomial-mem, covered-keep, covered-within, ascending-stripped, keep-family}
+use Rattle.rules.proofs.Family.{mem-family, family-own}
 use Rattle.rules.proofs.Literals.{literals-stripped, literals-uncovered, literals-without}
 use Rattle.rules.proofs.Ordered.{sum-ordered}
 use Rattle.rules.proofs.Parts.{folded-none, folded-ind, chain-ind}
 use Rattle.rules.proofs.Recursion.{cleanup-turn}
-use Rattle.rules.proofs.Turn.{Partial, Common, family-own, turn-ind}
+use Rattle.rules.proofs.Turn.{Partial, Common, turn-ind}
 
 -- ---- unions of the parts of a form
 
@@ -63,10 +63,6 @@ union-without m l a p h =
 -- a part of a mask and the rest of it are the whole
 or-sub : (c m : ℕ) → within c m ≡ true → bitOr c (m - c) ≡ m
 or-sub c m h = or-disjoint c (m - c) (sub-disjoint c m h) ∙ omega (arith, within-le c m h)
-
-pub or-within : (c m : ℕ) → within c m ≡ true → bitOr c m ≡ m
-or-within c m h =
-    within-antisym (bitOr c m) m (within-or c m m ∙ and-intro (within c m) (within m m) h (within-refl m)) (within-or-r c m)
 
 repeated : (c : ℕ) (l : List ℕ) → 0 < length l → sum bitOr 0 (λ m. c) l ≡ c
 unfolding sum
@@ -162,7 +158,7 @@ module _ (g : List ℕ → Tree) (l : List ℕ) (a : Ascending l)
   names-part : (m : ℕ) → Partial l m → mentioned (XO (orChain m) (g (keep (λ x. not (mem x (family m))) l))) ≡ union l
   unfolding mentioned
   names-part m u =
-      let less = literals-without m l (u .nonzero) (and-true-l (mem m l) (ltb 0 m) (sym (mem-keep (λ x. ltb 0 x) l m) ∙ u .monomial)) in
+      let less = literals-without m l (u .nonzero) (monomial-mem l m (u .monomial) .1) in
       ap₂ bitOr (mentioned-orChain m) (h _ less (ascending-keep (λ x. not (mem x (family m))) l a))
       ∙ sym (union-without m l a (u .nonzero) (u .subsets))
 

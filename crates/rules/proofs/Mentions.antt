@@ -12,7 +12,6 @@ use mathlib.Core.Path.{_≡_, sym, ap, subst, _∙_}
 use Prim.Native.Nat.{ℕ, _-_, _^_, _<_}
 use native.Mathlib.Omega.{arith}
 use lib.Dec.{ltb, eqb}
-use lib.ListN.{length}
 use borrow.Author.Tests.{eqb-true}
 use Rattle.bits.specs.Bit.{bit, within}
 use Rattle.bits.specs.Range.{keep, mem, Below}
@@ -20,7 +19,7 @@ use Rattle.bits.proofs.Bit.{bit-lt}
 use Rattle.bits.proofs.Every.{Every, every-left, every-right, every-map, every-mem}
 use Rattle.bits.proofs.Fixed.{fixed-keeps}
 use Rattle.bits.proofs.Mask.{within-bit, bit-sub}
-use Rattle.bits.proofs.Range.{mem-head, mem-tail, mem-keep, any-map, any-mem}
+use Rattle.bits.proofs.Range.{mem-head, mem-tail, mem-some, mem-keep, any-map, any-mem}
 use Rattle.bits.proofs.Ascending.{below-mem}
 use Rattle.bits.proofs.Truth.{and-true-l, and-true-r}
 use Rattle.bits.proofs.Word.{mem-places}
@@ -29,9 +28,10 @@ use Rattle.rules.specs.Form.{flags, chain, cube, orChain, folded, rawFor
 use Rattle.rules.specs.Monomial.{constant, monomials, ordered}
 use Rattle.rules.specs.Tree.{Tree, CO, VA, AN, OR, XO, NO, FlagsBelow}
 use Rattle.rules.proofs.Covered.{mem-covered, covered-within}
+use Rattle.rules.proofs.Family.{family-own}
 use Rattle.rules.proofs.Ordered.{mem-ordered}
 use Rattle.rules.proofs.Parts.{folded-none, folded-ind, chain-ind}
-use Rattle.rules.proofs.Turn.{Partial, Common, family-own, turn-ind}
+use Rattle.rules.proofs.Turn.{Partial, Common, turn-ind}
 
 pub record Closed (Q : ℕ → Type 0) (P : Tree → Type 0) : Type 0 where
   pub leaf : (b : Bool) → P (CO b)
@@ -47,10 +47,6 @@ Within Q m = (i : ℕ) → bit m i ≡ true → Q i
 
 abbrev pub Flags : (ℕ → Type 0) → List ℕ → Type 0
 Flags Q l = (m : ℕ) → mem m l ≡ true → Within Q m
-
-first : (l : List ℕ) → 0 < length l → (m : ℕ) × (mem m l ≡ true)
-first [] h = absurd (omega arith)
-first (m ∷ l) h = (m, mem-head m l)
 
 module _ (Q : ℕ → Type 0) (P : Tree → Type 0) (c : Closed Q P) where
   closed-chain : (op : Tree → Tree → Tree) (e : Tree) → ((x y : Tree) → P x → P y → P (op x y)) → P e → (ts : List Tree) → Every P ts → P (chain op e ts)
@@ -128,7 +124,7 @@ module _ (Q : ℕ → Type 0) (P : Tree → Type 0) (c : Closed Q P) where
 
     closed-common : (u : ℕ) → Common l u → P (withRest g (AN (cube u) (g (stripped u l))) (keep (λ m. not (within u m)) l))
     closed-common u o =
-        let (m, e) = first (covered u l) (omega (arith, o .many)) in
+        let (m, e) = mem-some (covered u l) (omega (arith, o .many)) in
         let factor = closed-cube u (within-part u m (covered-within u l m e) (covers u m e)) in
         rest (keep (λ x. not (within u x)) l) _ (flags-keep _ l f) (c .product _ _ factor (h _ (strips u)))
 

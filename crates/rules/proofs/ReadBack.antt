@@ -2,7 +2,6 @@
 -- turns (Run) and its stack (Stack). Assumes nothing.
 --   run-record       == one record on top of the stack
 --   run-tree         == where the rest begins with the bytes of t, reading them pushes t
---   run-write        == the same of bytes between others
 --   run-whole        == bytes of one tree alone give it
 --   made-write       == so does `made`, for up to 385 records
 use mathlib.Core.List.{List, [], _∷_, _++_, append-assoc, append-nil}
@@ -11,18 +10,14 @@ use mathlib.Core.Path.{_≡_, refl, sym, ap, ap₂, _∙_}
 use Prim.Native.Nat.{ℕ, suc, _+_, _-_, _≤_}
 use native.Mathlib.Omega.{arith}
 use lib.ListN.{length, drop, length-append, length-drop}
-use lib.Seq.{drop-drop, drop-append-seam}
 use Rattle.rules.specs.Limits.{recordLimit}
 use Rattle.rules.specs.Machine.{binary, unary, push, finish, run, made}
 use Rattle.rules.specs.Outcome.{gives}
-use Rattle.rules.specs.Record.{Kind, Constant, Flag, And, Or, Xor, Not}
+use Rattle.rules.specs.Record.{Kind, Constant, Flag, And, Or, Xor, Not, FlagBelow}
 use Rattle.rules.specs.Tree.{Tree, CO, VA, AN, OR, XO, NO, size, write, FlagsBelow}
-use Rattle.rules.proofs.RecordAt.{bytesOf, bytesOf-long, FlagBelow, record-at}
+use Rattle.rules.proofs.RecordAt.{bytesOf, bytesOf-long, record-at, drop-past}
 use Rattle.rules.proofs.Run.{run-end, run-read}
 use Rattle.rules.proofs.Stack.{writes, sizes, pushed}
-
-drop-past : (s : List ℕ) (p : ℕ) (x b : List ℕ) → drop p s ≡ x ++ b → drop (p + length x) s ≡ b
-drop-past s p x b e = sym (drop-drop (length x) p s) ∙ ap (drop (length x)) e ∙ drop-append-seam x b
 
 module _ (n : ℕ) (s : List ℕ) where
   pub run-record : (k : Kind) (ts us : List Tree) → FlagBelow n k → push k ts ≡ some us
@@ -75,10 +70,6 @@ module _ (n : ℕ) (s : List ℕ) where
       → run k n s p ts ≡ run (k - size t) n s (p + length (write t)) (t ∷ ts)
   unfolding Reads
   run-tree t f k p b ts l e = ap (λ (i : ℕ). run i n s p ts) (omega arith) ∙ reads t f p b (k - size t) ts e
-
-pub run-write : (n : ℕ) (t : Tree) → FlagsBelow n t → (a b : List ℕ) (k : ℕ) (ts : List Tree) → size t ≤ k
-    → run k n (a ++ write t ++ b) (length a) ts ≡ run (k - size t) n (a ++ write t ++ b) (length a + length (write t)) (t ∷ ts)
-run-write n t f a b k ts l = run-tree n (a ++ write t ++ b) t f k (length a) b ts l (rw append-assoc (drop-append-seam a (write t ++ b)))
 
 pub run-whole : (n : ℕ) (t : Tree) → FlagsBelow n t → (k : ℕ) → size t ≤ k → run k n (write t) 0 [] ≡ gives t
 unfolding finish

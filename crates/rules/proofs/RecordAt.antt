@@ -1,7 +1,7 @@
 -- What the reader answers at a place: where a whole record stands it is that record, and what is answered stood there. That its bytes are the record's
 -- wants a byte below 256, since a mark is two letters as one number; a slice of bytes always meets it. Beyond that it assumes nothing.
 --   bytesOf k, bytesOf-long     == the bytes of a record, two at least
---   FlagBelow n k               == a flag's index is below n
+--   drop-past                   == what stands behind the bytes that the rest begins with
 --   record-at                   == a whole record is read where the rest begins with it
 --   Read, record-read           == what is read stood there, whole and with a flag below n; its bytes too, if the one behind the first is below 256
 use mathlib.Core.Bool.{Bool, true, false}
@@ -12,14 +12,14 @@ use native.Mathlib.Nat.{add-suc}
 use native.Mathlib.Omega.{arith}
 use lib.Dec.{ltb, leb, eqb, lit<}
 use lib.ListN.{length, getD, drop, length-drop}
-use lib.Seq.{getD-drop, drop-cons, drop-drop}
+use lib.Seq.{getD-drop, drop-cons, drop-drop, drop-append-seam}
 use borrow.Author.Tests.{ltb-true, ltb-false, leb-true, eqb-true, le-ltb, lt-ltb}
 use Rattle.bits.specs.Bit.{digit}
 use Rattle.bits.proofs.Bit.{digit-eqb}
 use Rattle.rules.specs.Ascii.{ascii}
 use Rattle.rules.specs.Limits.{badMark, badPayload}
 use Rattle.rules.specs.Outcome.{Outcome, gives, refuses, refuse}
-use Rattle.rules.specs.Record.{Kind, Constant, Flag, And, Or, Xor, Not, Found, mark, marked, plain, loaded, recordAt}
+use Rattle.rules.specs.Record.{Kind, Constant, Flag, And, Or, Xor, Not, FlagBelow, Found, mark, marked, plain, loaded, recordAt}
 use Rattle.rules.proofs.Outcome.{gives-same, refuse-gives, pick, pick-gives}
 
 unfoldable pub bytesOf : Kind → List ℕ
@@ -39,13 +39,8 @@ bytesOf-long Or = omega arith
 bytesOf-long Xor = omega arith
 bytesOf-long Not = omega arith
 
-abbrev pub FlagBelow : ℕ → Kind → Type 0
-FlagBelow n (Constant b) = Unit
-FlagBelow n (Flag i) = i < n
-FlagBelow n And = Unit
-FlagBelow n Or = Unit
-FlagBelow n Xor = Unit
-FlagBelow n Not = Unit
+pub drop-past : (s : List ℕ) (p : ℕ) (x b : List ℕ) → drop p s ≡ x ++ b → drop (p + length x) s ≡ b
+drop-past s p x b e = sym (drop-drop (length x) p s) ∙ ap (drop (length x)) e ∙ drop-append-seam x b
 
 -- the reader's answer by the mark m, the payload c, and whether fewer than two or three bytes are left
 abbrev seen : ℕ → ℕ → ℕ → ℕ → Bool → Bool → Outcome Found

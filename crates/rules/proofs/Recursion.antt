@@ -2,6 +2,7 @@
 -- It rests on the literals of the parts of a form (Literals), the best choice (Greatest) and the fixed point along a measure (bits, Fixed).
 -- Assumes nothing.
 --   families l, cubes l          == the masks that rules 2 and 3 choose among
+--   isCube-many                  == a candidate cube covers two monomials
 --   families-mem, cubes-mem      == each of the first is a monomial of l; each of the second is not 0 and covers two monomials
 --   turn-ext                     == a turn is settled by the cleaned forms of fewer literals
 --   cleanup-turn                 == the cleanup's equation
@@ -13,7 +14,7 @@ use native.Mathlib.Omega.{arith}
 use lib.Count.{ones}
 use lib.Dec.{ltb, leb, eqb}
 use lib.ListN.{length}
-use borrow.Author.Tests.{ltb-true, leb-true}
+use borrow.Author.Tests.{leb-true}
 use Rattle.bits.specs.Bit.{within}
 use Rattle.bits.specs.Fixed.{below}
 use Rattle.bits.specs.Range.{from, keep, mem}
@@ -25,6 +26,7 @@ use Rattle.rules.specs.Cleanup.{atop, singles, isFamily, isPartial, best
 use Rattle.rules.specs.Form.{cube, orChain, rawForm, rawCost, literals}
 use Rattle.rules.specs.Monomial.{constant, monomials}
 use Rattle.rules.specs.Tree.{Tree, CO, AN, XO, cost}
+use Rattle.rules.proofs.Covered.{monomial-mem}
 use Rattle.rules.proofs.Greatest.{greatest-suc, greatest-ext}
 use Rattle.rules.proofs.Literals.{literals-stripped, literals-uncovered, literals-without}
 
@@ -35,19 +37,20 @@ abbrev pub cubes : List ℕ → List ℕ
 cubes l = keep (isCube l) (from 1 (union l))
 
 pub families-mem : (l : List ℕ) (m : ℕ) → mem m (families l) ≡ true → (0 < m) × (mem m l ≡ true)
-families-mem l m e =
-    let here : mem m (monomials l) ≡ true = and-true-l (mem m (monomials l)) (isPartial l m) (sym (mem-keep (isPartial l) (monomials l) m) ∙ e) in
-    let both = sym (mem-keep (λ x. ltb 0 x) l m) ∙ here in
-    (ltb-true 0 m (and-true-r (mem m l) (ltb 0 m) both), and-true-l (mem m l) (ltb 0 m) both)
+families-mem l m e = monomial-mem l m (and-true-l (mem m (monomials l)) (isPartial l m) (sym (mem-keep (isPartial l) (monomials l) m) ∙ e))
+
+pub isCube-many : (l : List ℕ) (c : ℕ) → isCube l c ≡ true → 2 ≤ length (covered c l)
+unfolding isCube
+isCube-many l c e =
+    let candidate = eqb (ones c) 1 && within c (union l) || leb 2 (ones c) && meets (monomials l) c in
+    leb-true 2 (length (covered c l)) (and-true-r candidate _ e)
 
 pub cubes-mem : (l : List ℕ) (c : ℕ) → mem c (cubes l) ≡ true → (0 < c) × (2 ≤ length (covered c l))
-unfolding isCube
 cubes-mem l c e =
     let both = sym (mem-keep (isCube l) (from 1 (union l)) c) ∙ e in
     let range = sym (mem-from 1 (union l) c) ∙ and-true-l (mem c (from 1 (union l))) (isCube l c) both in
     let test = and-true-r (mem c (from 1 (union l))) (isCube l c) both in
-    let candidate = eqb (ones c) 1 && within c (union l) || leb 2 (ones c) && meets (monomials l) c in
-    (leb-true 1 c (and-true-l (leb 1 c) (ltb c (1 + union l)) range), leb-true 2 (length (covered c l)) (and-true-r candidate _ test))
+    (leb-true 1 c (and-true-l (leb 1 c) (ltb c (1 + union l)) range), isCube-many l c test)
 
 module _ (g h : List ℕ → Tree) (l : List ℕ) (e : (x : List ℕ) → literals x < literals l → g x ≡ h x) where
   partialAt-ext : (m : ℕ) → bestFamily l ≡ m → partialAt g l m ≡ partialAt h l m

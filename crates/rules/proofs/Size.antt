@@ -7,22 +7,18 @@
 --   rawCost-limit                             == with up to six flags the raw cost is at most 385
 use mathlib.Core.Bool.{Bool, true, false, not}
 use mathlib.Core.List.{List, [], _∷_}
-use mathlib.Core.Path.{_≡_, refl, sym, ap, subst, _∙_}
+use mathlib.Core.Path.{_≡_, refl, sym, ap, _∙_}
 use Prim.Native.Nat.{ℕ, suc, _+_, _-_, _*_, _^_, _≤_, _<_}
 use native.Mathlib.Nat.{le-of-eq, le-trans, mul-le-mul-right}
 use native.Mathlib.Omega.{arith}
 use lib.Count.{ones}
-use lib.Dec.{ltb}
 use lib.ListN.{length, length-map}
-use lib.Pow.{pow-mono, pow-pos}
-use borrow.Author.Tests.{ltb-true, lt-ltb}
+use lib.Pow.{pow-mono}
 use Rattle.bits.specs.Bit.{digit, within}
 use Rattle.bits.specs.Range.{from, upto, keep, mem, Ascending, Below}
 use Rattle.bits.specs.Sum.{sum}
-use Rattle.bits.proofs.Truth.{and-intro, and-true-r}
-use Rattle.bits.proofs.Bit.{lt-pow, nonzero-bit, digit-le}
-use Rattle.bits.proofs.Mask.{within-pow, ones-sub, ones-pos, ones-pow}
-use Rattle.bits.proofs.Range.{mem-keep, mem-head}
+use Rattle.bits.proofs.Bit.{digit-le}
+use Rattle.bits.proofs.Mask.{ones-sub, ones-pos}
 use Rattle.bits.proofs.Ascending.{ascending-keep, below-mem, mem-below, keep-upto-of}
 use Rattle.bits.proofs.Fixed.{fixed-keeps}
 use Rattle.bits.proofs.Sum.{plus-laws, sum-split}
@@ -34,10 +30,10 @@ use Rattle.rules.specs.Limits.{ruleFlags, recordLimit}
 use Rattle.rules.specs.Monomial.{constant, monomials}
 use Rattle.rules.specs.Tree.{Tree, CO, AN, XO, NO, cost, size}
 use Rattle.rules.proofs.Cost.{cost-size, termCost-suc, termCost-pos, size-cube, size-orChain, size-rawForm, weight, bulk, rawCost-bulk, rawCost-pos, bulk-literals}
-use Rattle.rules.proofs.Covered.{on, form-split, covered-keep, ascending-covered, ascending-stripped, keep-family}
-use Rattle.rules.proofs.Family.{mem-family}
+use Rattle.rules.proofs.Covered.{on, form-split, pair-order, covered-keep, ascending-covered, ascending-stripped, keep-family}
+use Rattle.rules.proofs.Family.{family-own, family-other}
 use Rattle.rules.proofs.Literals.{literals-covered}
-use Rattle.rules.proofs.Turn.{Partial, Common, family-own, turn-ind}
+use Rattle.rules.proofs.Turn.{Partial, Common, turn-ind}
 
 -- ---- bulk and raw cost
 
@@ -64,13 +60,11 @@ bulk-covered c l p =
     ap (λ (k : List ℕ). bulk k + bulk (keep (λ m. not (within c m)) l)) (covered-keep c p l)
     ∙ sym (sum-split plus-laws weight (λ m. within c m) l)
 
--- the mask itself, and one of its flags
+-- the mask itself, and another
 pub bulk-family : (m : ℕ) → 2 ≤ ones m → 0 < m → termCost m + 3 ≤ bulk (family m)
 bulk-family m h p =
-    let (i, k, b) = nonzero-bit m m (lt-pow m) p in
-    let flag : mem (2 ^ i) (family m) ≡ true = mem-family (2 ^ i) m ∙ and-intro _ _ (lt-ltb 0 (2 ^ i) (pow-pos i)) (within-pow i m ∙ b) in
-    let other : m ≡ 2 ^ i → ⊥ = λ e. omega (arith, ap ones e, ones-pow i) in
-    omega (arith, termCost-pos (2 ^ i), total-two weight (family m) m (2 ^ i) (family-own m p) flag other)
+    let (f, here, other) = family-other m h p in
+    omega (arith, termCost-pos f, total-two weight (family m) m f (family-own m p) here other)
 
 -- ---- rule by rule
 
@@ -139,8 +133,7 @@ module _ (g : List ℕ → Tree) (h : (l : List ℕ) → Ascending l → size (g
   size-absorbed : (m o : ℕ) → monomials l ≡ m ∷ o ∷ [] → within m o ≡ true → size (atop (constant l) (AN (cube m) (NO (cube (o - m))))) ≤ rawCost l
   unfolding size sum
   size-absorbed m o e w =
-      let a : Ascending (m ∷ o ∷ []) = subst Ascending e (ascending-keep (ltb 0) l s) in
-      let p : 0 < m = ltb-true 0 m (and-true-r (mem m l) (ltb 0 m) (sym (mem-keep (ltb 0) l m) ∙ ap (mem m) e ∙ mem-head m (o ∷ []))) in
+      let (p, up) = pair-order l s m o e in
       size-atop (AN (cube m) (NO (cube (o - m))))
       (omega (
         arith,

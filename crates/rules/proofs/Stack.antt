@@ -10,9 +10,9 @@ use Prim.Native.Nat.{ℕ, suc, _+_}
 use native.Mathlib.Omega.{arith}
 use Rattle.bits.proofs.Every.{Every, every-left, every-right}
 use Rattle.rules.specs.Machine.{binary, unary, push}
-use Rattle.rules.specs.Record.{Kind, Constant, Flag, And, Or, Xor, Not}
+use Rattle.rules.specs.Record.{Kind, Constant, Flag, And, Or, Xor, Not, FlagBelow}
 use Rattle.rules.specs.Tree.{Tree, CO, VA, AN, OR, XO, NO, size, write, FlagsBelow}
-use Rattle.rules.proofs.RecordAt.{bytesOf, FlagBelow}
+use Rattle.rules.proofs.RecordAt.{bytesOf}
 
 abbrev pub writes : List Tree → List ℕ
 writes [] = []

@@ -3,7 +3,7 @@
 --   Partial l m          == the monomial m of l is one that rule 2 may choose
 --   Common l c           == the cube c is one that rule 3 may choose in l
 --   Turn g l P           == P holds of every tree that a turn at l may give, with g for "the cleaned form of"
---   family-own           == a mask is in its own family
+--   may-part             == a mask that rule 2 chooses among is one that it may choose
 --   turn-ind             == then it holds of the turn
 use mathlib.Core.Bool.{Bool, true, false, not, _&&_}
 use mathlib.Core.List.{List, [], _∷_, _++_, foldl}
@@ -13,18 +13,16 @@ use native.Mathlib.Omega.{arith}
 use lib.Count.{ones}
 use lib.Dec.{ltb, leb}
 use lib.ListN.{length}
-use borrow.Author.Tests.{ltb-true, lt-ltb, leb-true, leb-false}
+use borrow.Author.Tests.{ltb-true, leb-true, leb-false}
 use Rattle.bits.specs.Bit.{within}
 use Rattle.bits.specs.Range.{keep, all, mem, same}
 use Rattle.bits.proofs.Every.{Every, every-append}
-use Rattle.bits.proofs.Mask.{within-refl}
-use Rattle.bits.proofs.Truth.{and-intro, and-true-l, and-true-r}
+use Rattle.bits.proofs.Truth.{and-true-l, and-true-r}
 use Rattle.bits.proofs.Range.{mem-keep, same-true}
 use Rattle.rules.specs.Cleanup.{family, atop, singles, isFamily, isPartial, bestFamily, partialAt, partialOr, covered, stripped, cubeSaving, bestCube, withRest, cubeAt, commonCube, absorb, absorption, cheaper, contest, turn}
 use Rattle.rules.specs.Form.{cube, orChain, rawForm}
 use Rattle.rules.specs.Monomial.{constant, monomials}
 use Rattle.rules.specs.Tree.{Tree, CO, AN, XO, NO, cost}
-use Rattle.rules.proofs.Family.{mem-family}
 use Rattle.rules.proofs.Greatest.{greatest-suc}
 use Rattle.rules.proofs.Recursion.{families, cubes, families-mem, cubes-mem}
 
@@ -47,10 +45,6 @@ pub record Turn (g : List ℕ → Tree) (l : List ℕ) (P : Tree → Type 0) : T
   pub common : (c : ℕ) → Common l c → P (withRest g (AN (cube c) (g (stripped c l))) (keep (λ m. not (within c m)) l))
   pub absorbed : (m o : ℕ) → monomials l ≡ m ∷ o ∷ [] → within m o ≡ true → P (atop (constant l) (AN (cube m) (NO (cube (o - m)))))
 
--- a mask is in its own family
-pub family-own : (m : ℕ) → 0 < m → mem m (family m) ≡ true
-family-own m p = mem-family m m ∙ and-intro _ _ (lt-ltb 0 m p) (within-refl m)
-
 -- ---- choices
 
 -- a branch, by the test's value
@@ -63,7 +57,7 @@ unfolding cheaper
 cheaper-ind P [] t p h = p
 cheaper-ind P (u ∷ ts) t p h = cheaper-ind P ts (cheaper t u) (pick P (ltb (cost u) (cost t)) u t (λ e. h .0) (λ e. p)) (h .1)
 
-may-part : (l : List ℕ) (m : ℕ) → mem m (families l) ≡ true → Partial l m
+pub may-part : (l : List ℕ) (m : ℕ) → mem m (families l) ≡ true → Partial l m
 unfolding isPartial
 may-part l m e =
     let both = sym (mem-keep (isPartial l) (monomials l) m) ∙ e in

@@ -9,21 +9,19 @@ use mathlib.Core.List.{List, [], _∷_}
 use mathlib.Core.Path.{_≡_, refl, sym, ap, ap₂, _∙_}
 use Prim.Native.Nat.{ℕ, _-_, _<_}
 use native.Mathlib.Omega.{arith}
-use lib.Dec.{ltb}
 use lib.ListN.{length}
 use Rattle.bits.specs.Bit.{_⊕_, within}
 use Rattle.bits.specs.Range.{keep, mem, Ascending}
 use Rattle.bits.specs.Sum.{sum, parity}
-use Rattle.bits.proofs.Truth.{and-true-l, xor-false}
+use Rattle.bits.proofs.Truth.{xor-false}
 use Rattle.bits.proofs.Mask.{within-split}
 use Rattle.bits.proofs.Fixed.{fixed-ind}
-use Rattle.bits.proofs.Range.{mem-keep}
 use Rattle.bits.proofs.Ascending.{ascending-keep}
 use Rattle.rules.specs.Cleanup.{family, atop, singles, covered, stripped, withRest, turn, cleanup}
 use Rattle.rules.specs.Form.{cube, orChain, literals}
 use Rattle.rules.specs.Monomial.{constant, monomials}
 use Rattle.rules.specs.Tree.{Tree, CO, AN, XO, NO, value}
-use Rattle.rules.proofs.Covered.{parity-constant, parity-covered, parity-uncovered, parity-without, ascending-stripped}
+use Rattle.rules.proofs.Covered.{parity-constant, monomial-mem, parity-covered, parity-uncovered, parity-without, ascending-stripped}
 use Rattle.rules.proofs.Family.{parity-family}
 use Rattle.rules.proofs.Literals.{literals-stripped, literals-uncovered, literals-without}
 use Rattle.rules.proofs.Recursion.{cleanup-turn}
@@ -63,7 +61,7 @@ module _ (g : List ℕ → Tree) (l : List ℕ) (a : Ascending l) (h : (x : List
   unfolding value
   means-part m u s =
       let k = keep (λ x. not (mem x (family m))) l in
-      let less = literals-without m l (u .nonzero) (and-true-l (mem m l) (ltb 0 m) (sym (mem-keep (λ x. ltb 0 x) l m) ∙ u .monomial)) in
+      let less = literals-without m l (u .nonzero) (monomial-mem l m (u .monomial) .1) in
       ap₂ _⊕_ (value-orChain m s) (h k less (ascending-keep (λ x. not (mem x (family m))) l a) s) ∙ sym (parity-without m l a (u .subsets) s)
 
   means-common : (c : ℕ) → Common l c → Means (withRest g (AN (cube c) (g (stripped c l))) (keep (λ m. not (within c m)) l)) l

@@ -1,9 +1,10 @@
 -- One record of an expression's bytes.
 --   Kind             == what a record is, with its payload
+--   FlagBelow n k    == a record of the kind names no flag at n or above
 --   recordAt n s p   == the record that begins at byte p of s with n flags: its kind and the next place, or the refusal of its mark or payload
 use mathlib.Core.Bool.{Bool, true, false}
 use mathlib.Core.List.{List}
-use Prim.Native.Nat.{ℕ, _+_, _*_}
+use Prim.Native.Nat.{ℕ, _+_, _*_, _<_}
 use Prim.Native.String.{String}
 use lib.Dec.{ltb, leb, eqb}
 use lib.ListN.{length, getD, drop}
@@ -15,6 +16,14 @@ pub data Kind : Type 0 where
   Constant : Bool → Kind
   Flag : ℕ → Kind
   And Or Xor Not : Kind
+
+abbrev pub FlagBelow : ℕ → Kind → Type 0
+FlagBelow n (Constant b) = Unit
+FlagBelow n (Flag i) = i < n
+FlagBelow n And = Unit
+FlagBelow n Or = Unit
+FlagBelow n Xor = Unit
+FlagBelow n Not = Unit
 
 pub record Found : Type 0 where
   pub kind : Kind

@@ -12,7 +12,8 @@ use rules::RECORD_LIMIT;
 ghost use mathlib.Core.Path.{_≡_};
 ghost use Prim.Native.Nat.{_≤_};
 ghost use Rattle.rules.specs.Limits.{ruleFlags};
-ghost use Rattle.expr.specs.Answers.{kindOf, IndexBelow};
+ghost use Rattle.rules.specs.Record.{FlagBelow};
+ghost use Rattle.expr.specs.Answers.{kindOf};
 ghost use Rattle.expr.specs.Values.{evaluationOf, evaluated, applied};
 
 // The records in turn over a stack of truth values.
@@ -51,7 +52,7 @@ pub fn walk(flags: usize, bytes: &[u8], setting: usize) -> Evaluation
 
 // The value of a record from those of its operands; a leaf has none.
 fn value(kind: Kind, setting: usize, first: bool, second: bool) -> bool
-    requires { ⌜ IndexBelow 64 (kindOf kind) ⌝ }
+    requires { ⌜ FlagBelow 64 (kindOf kind) ⌝ }
     ensures { λ r. ⌜ r ≡ applied (kindOf kind) setting first second ⌝ }
 {
     match kind {

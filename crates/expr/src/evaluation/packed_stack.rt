@@ -5,13 +5,14 @@ ghost use mathlib.Core.Path.{_≡_};
 ghost use Prim.Native.Nat.{_+_, _-_, _*_, _/_, _%_, _^_, _≤_, _<_};
 ghost use Rattle.bits.specs.Bit.{bit, digit};
 ghost use Rattle.rules.specs.Machine.{push};
+ghost use Rattle.rules.specs.Record.{FlagBelow};
 ghost use Rattle.rules.specs.Tree.{Tree};
-ghost use Rattle.expr.specs.Answers.{kindOf, IndexBelow};
+ghost use Rattle.expr.specs.Answers.{kindOf};
 ghost use Rattle.expr.specs.Packed.{packed, repacked};
 
 // The stack after a record, or 0 where an operand is lacking.
 pub fn after(kind: Kind, setting: usize, stack: usize) -> usize
-    requires index { ⌜ IndexBelow 64 (kindOf kind) ⌝ }
+    requires index { ⌜ FlagBelow 64 (kindOf kind) ⌝ }
     requires room { ⌜ stack < 2 ^ 63 ⌝ }
     ensures { λ r. ⌜ ((ts : List Tree) → packed setting ts ≡ stack → r ≡ repacked setting (push (kindOf kind) ts)) ⌝ }
 {
