@@ -117,13 +117,13 @@ module _ (n : ℕ) (ws : List ℕ) where
 
   -- ---- the walk
 
-  module _ {s : List ℕ} {count place depth less : ℕ} {a : List ℕ} {ors : List Bool} (w : Costed (lanes n ws) n s count place depth a ors less) where
+  module _ {s : List ℕ} {entries count place depth less : ℕ} {a : List ℕ} {ors : List Bool} (w : Costed (lanes n ws) n s entries count place depth a ors less) where
     pub lanes-step : ((i : ℕ) → getD ws i 0 < 2 ^ 64) → {r : Found} → Read n s place r → count < recordLimit
-        → (base : ℕ) → base + arityOf (r .kind) ≡ depth
+        → (base : ℕ) → base + arityOf (r .kind) ≡ depth → base < entries
         → (v : ℕ) → v ≡ applied ws (r .kind) (getD a base 0) (getD a (base + 1) 0) → (o : Bool) → o ≡ orOf (r .kind)
-        → Costed (lanes n ws) n s (count + 1) (r .next) (base + 1) (set a base v) (set ors base o) (less + boolByte (o && getD ors base false))
-    lanes-step small {r} f l base h v is =
-        costed-step w lanes-folds 0 f l base h v (is ∙ applied-combined small (r .kind) (read-index f n (le-refl n)) (getD a base 0) (getD a (base + 1) 0))
+        → Costed (lanes n ws) n s entries (count + 1) (r .next) (base + 1) (set a base v) (set ors base o) (less + boolByte (o && getD ors base false))
+    lanes-step small {r} f l base h below v is =
+        costed-step w lanes-folds 0 f l base h below v (is ∙ applied-combined small (r .kind) (read-index f n (le-refl n)) (getD a base 0) (getD a (base + 1) 0))
 
     pub seen-end : length s ≤ place → seen n s ws ≡ ended depth (length s) (gives (record { values = getD a 0 0; cost = count - less }))
     unfolding seen

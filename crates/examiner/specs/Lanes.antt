@@ -5,19 +5,23 @@
 --   applied ws k x y     == the lanes of a record of kind k from those of its operands, of which it uses as many as it has
 --   seen n s ws          == what the walk over the bytes s is to answer: the values in all lanes and the cost of the tree, or its refusal
 --   walkedOf w           == what it answers
+--   Within entries o a   == over a stack of that many entries, a answers o; it may be full only if it has no more entries than there may be records
 use mathlib.Core.Bool.{Bool, true, false}
 use mathlib.Core.List.{List}
-use Prim.Native.Nat.{ℕ, _-_, _^_}
+use mathlib.Core.Path.{_≡_}
+use Prim.Native.Nat.{ℕ, _-_, _^_, _≤_}
 use lib.Bits.{bitAnd, bitOr, bitXor}
 use lib.ListN.{getD}
 use Rattle.bits.specs.Bit.{bit}
 use Rattle.bits.specs.Range.{keep, upto}
 use Rattle.bits.specs.Word.{word}
-use Rattle.rules.specs.Limits.{wordBits}
+use Rattle.rules.specs.Limits.{wordBits, recordLimit}
 use Rattle.rules.specs.Machine.{made}
 use Rattle.rules.specs.Outcome.{Outcome, gives, refuses, _then_}
 use Rattle.rules.specs.Record.{Kind, Constant, Flag, And, Or, Xor, Not}
 use Rattle.rules.specs.Tree.{Tree, value, cost}
+use Rattle.examiner.specs.declared.lanes.Attempt.{Attempt}
+use Rattle.examiner.specs.declared.lanes.Attempt.the-variants.{Done, Full}
 use Rattle.examiner.specs.declared.lanes.Seen.{Seen}
 use Rattle.examiner.specs.declared.lanes.Walked.{Walked}
 use Rattle.examiner.specs.declared.lanes.Walked.the-variants.{Values, Refused}
@@ -46,3 +50,7 @@ seen n s ws = made n s then (λ t. gives (record { values = lanes n ws t; cost =
 abbrev pub walkedOf : Walked → Outcome Seen
 walkedOf (Values v) = gives v
 walkedOf (Refused r) = refuses (r .number) (r .place)
+
+abbrev pub Within : ℕ → Outcome Seen → Attempt → Type 0
+Within entries o (Done w) = walkedOf w ≡ o
+Within entries o Full = entries ≤ recordLimit

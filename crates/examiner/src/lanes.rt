@@ -8,14 +8,14 @@ use rules::MANY_RECORDS;
 use rules::RECORD_LIMIT;
 use rules::Refusal;
 ghost use mathlib.Core.Path.{_≡_};
-ghost use Prim.Native.Nat.{_≤_};
+ghost use Prim.Native.Nat.{_≤_, _<_};
 ghost use lib.Dec.{eqb};
 ghost use lib.ListN.{length};
 ghost use Rattle.rules.specs.Limits.{ruleFlags};
 ghost use Rattle.rules.specs.Outcome.{gives};
 ghost use Rattle.rules.specs.Record.{FlagBelow};
 ghost use Rattle.expr.specs.Answers.{kindOf, ended};
-ghost use Rattle.examiner.specs.Lanes.{seen, walkedOf, applied, filled};
+ghost use Rattle.examiner.specs.Lanes.{seen, walkedOf, Within, applied, filled};
 
 // The values of an expression in all lanes, and its cost.
 pub struct Seen {
@@ -28,13 +28,51 @@ pub enum Walked {
     Refused(Refusal),
 }
 
-// The records in turn over a stack of words; beside it stands whether an entry is an OR.
+// The answer of a walk over a lent stack, or that the operands fill it.
+enum Attempt {
+    Done(Walked),
+    Full,
+}
+
+// The walk over a short stack and, for an expression that fills it, over a long one, which takes longer to clear than most expressions to walk.
 pub fn walk(flags: usize, bytes: &[u8], words: &[u64]) -> Walked
+    requires { ⌜ (flags ≤ ruleFlags) × (flags ≤ length (now words)) ⌝ }
+    ensures { λ r. ⌜ walkedOf r ≡ seen flags (now (bytes .entry)) (now (words .entry)) ⌝ }
+{
+    let mut stack = [0u64; 24];
+    let mut ors = [false; 24];
+    let attempt = walk_on(flags, bytes, words, &mut stack, &mut ors);
+    match attempt {
+        Attempt::Done(walked) => walked,
+        Attempt::Full => walk_deep(flags, bytes, words),
+    }
+}
+
+// The walk over a stack that no expression fills: it has an entry more than there may be records, so the refusal here is never given.
+fn walk_deep(flags: usize, bytes: &[u8], words: &[u64]) -> Walked
     requires { ⌜ (flags ≤ ruleFlags) × (flags ≤ length (now words)) ⌝ }
     ensures { λ r. ⌜ walkedOf r ≡ seen flags (now (bytes .entry)) (now (words .entry)) ⌝ }
 {
     let mut stack = [0u64; 386];
     let mut ors = [false; 386];
+    let attempt = walk_on(flags, bytes, words, &mut stack, &mut ors);
+    match attempt {
+        Attempt::Done(walked) => walked,
+        Attempt::Full => refused(MANY_RECORDS, 0),
+    }
+}
+
+// The records in turn over a stack of words; beside it stands whether an entry is an OR.
+fn walk_on(
+    flags: usize,
+    bytes: &[u8],
+    words: &[u64],
+    stack: &mut [u64],
+    ors: &mut [bool],
+) -> Attempt
+    requires { ⌜ (flags ≤ ruleFlags) × (flags ≤ length (now words)) × (0 < length (now stack)) × (length (now ors) ≡ length (now stack)) ⌝ }
+    ensures { λ r. ⌜ Within (length (now (stack .entry))) (seen flags (now (bytes .entry)) (now (words .entry))) r ⌝ }
+{
     let mut depth = 0;
     let mut place = 0;
     let mut count = 0;
@@ -43,17 +81,20 @@ pub fn walk(flags: usize, bytes: &[u8], words: &[u64]) -> Walked
         let answer = expr::read(flags, bytes, place);
         let Reading::Found(node) = answer else {
             let Reading::Refused(refusal) = answer else {
-                return finished(stack[0], count - saved, depth, bytes.len());
+                return Attempt::Done(finished(stack[0], count - saved, depth, bytes.len()));
             };
-            return Walked::Refused(refusal);
+            return Attempt::Done(Walked::Refused(refusal));
         };
         let kind = node.kind;
         let operands = expr::arity(kind);
         if depth < operands {
-            return refused(FEW_OPERANDS, place);
+            return Attempt::Done(refused(FEW_OPERANDS, place));
         }
         let base = depth - operands;
         let second = base + 1;
+        if stack.len() <= second {
+            return Attempt::Full;
+        }
         let or = expr::is_or(kind);
         saved = saved + ((or & ors[base]) as usize);
         ors[base] = or;
@@ -63,9 +104,9 @@ pub fn walk(flags: usize, bytes: &[u8], words: &[u64]) -> Walked
         count = count + 1;
     }
     if place < bytes.len() {
-        return refused(MANY_RECORDS, place);
+        return Attempt::Done(refused(MANY_RECORDS, place));
     }
-    finished(stack[0], count - saved, depth, bytes.len())
+    Attempt::Done(finished(stack[0], count - saved, depth, bytes.len()))
 }
 
 fn refused(number: u64, place: usize) -> Walked

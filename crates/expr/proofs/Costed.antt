@@ -2,9 +2,9 @@
 -- expression is the number of its records less what was saved. They hold whatever `e` the walk keeps of a tree besides, and rest on the laws of Walk
 -- and Stack and on rules' Saved. Assumes nothing.
 --   saved-push                            == a record saves one where it is an OR and its first operand is an OR
---   Costed e n s count place depth a ors less
+--   Costed e n s entries count place depth a ors less
 --                                         == a walk, where ors says which trees are ORs and less is what they save; both arrays have
---                                            room for as many records as there may be, and one more
+--                                            that many entries
 --   costed-start, costed-step             == before the first record; one record more
 --   costed-less, costed-more, costed-fits == no more is saved than records are read, nor with the next record, and so it fits
 --   costed-fold                           == what a fold makes of the array's entries is e of the record's tree
@@ -55,22 +55,22 @@ saved-push Not ts base b h is = omega (arith, total-one saved ts base h)
 
 -- ---- the walk
 
-pub record Costed {A : Type 0} (e : Tree → A) (n : ℕ) (s : List ℕ) (count place depth : ℕ) (a : List A) (ors : List Bool) (less : ℕ) : Type 0 where
+pub record Costed {A : Type 0} (e : Tree → A) (n : ℕ) (s : List ℕ) (entries count place depth : ℕ) (a : List A) (ors : List Bool) (less : ℕ) : Type 0 where
   pub walk : Walk n s count place depth
   pub image : Image e (walk .stack) a
   pub kinds : Image isOr (walk .stack) ors
   pub saves : total saved (walk .stack) ≡ less
-  pub room : length a ≡ recordLimit + 1
-  pub space : length ors ≡ recordLimit + 1
+  pub room : length a ≡ entries
+  pub space : length ors ≡ entries
 
-pub costed-start : {A : Type 0} (e : Tree → A) (n : ℕ) (s : List ℕ) (a : List A) (ors : List Bool)
-    → length a ≡ recordLimit + 1 → length ors ≡ recordLimit + 1 → Costed e n s 0 0 0 a ors 0
+pub costed-start : {A : Type 0} (e : Tree → A) (n : ℕ) (s : List ℕ) (entries : ℕ) (a : List A) (ors : List Bool)
+    → length a ≡ entries → length ors ≡ entries → Costed e n s entries 0 0 0 a ors 0
 unfolding walk-start sum
-costed-start e n s a ors h k =
+costed-start e n s entries a ors h k =
     record { walk = walk-start n s; image = image-empty e a; kinds = image-empty isOr ors; saves = refl; room = h; space = k }
 
-module _ {A : Type 0} {e : Tree → A} {n : ℕ} {s : List ℕ} {count place depth less : ℕ} {a : List A} {ors : List Bool}
-    (w : Costed e n s count place depth a ors less) where
+module _ {A : Type 0} {e : Tree → A} {n : ℕ} {s : List ℕ} {entries count place depth less : ℕ} {a : List A} {ors : List Bool}
+    (w : Costed e n s entries count place depth a ors less) where
   pub costed-less : less ≤ count
   costed-less =
       omega (arith, total-mono saved size (w .walk .stack) (λ t. omega (arith, cost-saved t)), w .saves, w .walk .sizes)
@@ -90,13 +90,12 @@ module _ {A : Type 0} {e : Tree → A} {n : ℕ} {s : List ℕ} {count place dep
       (λ q. w .image d base (omega arith)) (λ q. w .image d (base + 1) (omega arith))
 
   pub costed-step : {f : Kind → A → A → A} → Folds e f → (d : A) → {r : Found} → Read n s place r → count < recordLimit
-      → (base : ℕ) → base + arityOf (r .kind) ≡ depth
+      → (base : ℕ) → base + arityOf (r .kind) ≡ depth → base < entries
       → (v : A) → v ≡ f (r .kind) (getD a base d) (getD a (base + 1) d)
       → (o : Bool) → o ≡ orOf (r .kind)
-      → Costed e n s (count + 1) (r .next) (base + 1) (set a base v) (set ors base o) (less + boolByte (o && getD ors base false))
-  costed-step {f} law d {r} found l base h v is o or =
+      → Costed e n s entries (count + 1) (r .next) (base + 1) (set a base v) (set ors base o) (less + boolByte (o && getD ors base false))
+  costed-step {f} law d {r} found l base h below v is o or =
       let deep = w .walk .deep in
-      let high = w .walk .high in
       let first = getD ors base false in
       record {
         walk = walk-step (w .walk) found l base h;

@@ -38,7 +38,7 @@ depth-folds Or x y a b p q = omega (arith, p (lit≤ tt), q (lit≤ tt))
 depth-folds Xor x y a b p q = omega (arith, p (lit≤ tt), q (lit≤ tt))
 depth-folds Not x y a b p q = omega (arith, p (lit≤ tt))
 
-pub deepest-limit : {n : ℕ} {s : List ℕ} {count place deep : ℕ} {a : List ℕ} {ors : List Bool} {less : ℕ} → Costed depth n s count place deep a ors less
+pub deepest-limit : {n : ℕ} {s : List ℕ} {entries count place deep : ℕ} {a : List ℕ} {ors : List Bool} {less : ℕ} → Costed depth n s entries count place deep a ors less
     → {r : Found} → Read n s place r → count < recordLimit → {k : ℕ} → k ≡ arityOf (r .kind) → (base : ℕ) → base + k ≡ deep
     → deepest k (getD a base 0) (getD a (base + 1) 0) ≤ recordLimit
 deepest-limit {deep = deep} {a = a} w {r} f l {k} e base h =

@@ -51,7 +51,7 @@ module _ (n : ℕ) (s : List ℕ) where
       go (gives t) h = cc
       go (refuses a b) h = cc
 
-pub costing-end : {n : ℕ} {s : List ℕ} {count place deep : ℕ} {a : List ℕ} {ors : List Bool} {less : ℕ} → Costed depth n s count place deep a ors less
+pub costing-end : {n : ℕ} {s : List ℕ} {entries count place deep : ℕ} {a : List ℕ} {ors : List Bool} {less : ℕ} → Costed depth n s entries count place deep a ors less
     → n ≤ ruleFlags → length s ≤ place
     → {o : Outcome Costs} → o ≡ ended deep (length s) (gives (record { cost = count - less; size = count; depth = getD a 0 0 })) → o ≡ costing n s
 costing-end {n} {s} w h l e =

@@ -22,7 +22,7 @@ use Rattle.expr_cost.proofs.walk.Tie as tie
 
 abbrev Inv-loop : tie.InvT-loop
 Inv-loop flags bytes stack₀ ors₀ depth₀ place₀ count₀ saved₀ stack ors depth place count saved =
-    Costed tree.depth flags bytes count place depth stack ors saved
+    Costed tree.depth flags bytes (recordLimit + 1) count place depth stack ors saved
 
 abbrev μ-loop : tie.MeasureT-loop
 μ-loop flags bytes stack₀ ors₀ depth₀ place₀ count₀ saved₀ stack ors depth place count saved = recordLimit - count
@@ -30,7 +30,7 @@ abbrev μ-loop : tie.MeasureT-loop
 loop-holds : tie.Need-loop-holds Inv-loop μ-loop
 loop-holds c =
     let a = c .before .args in
-    costed-start tree.depth (a .flags) (now (a .bytes)) _ _ refl refl
+    costed-start tree.depth (a .flags) (now (a .bytes)) _ _ _ refl refl
 
 finished-requires : tie.Need-finished-requires Inv-loop μ-loop
 finished-requires c κs = costed-less (c .before .before .before .before .loop .inv)
@@ -80,7 +80,7 @@ loop-again c =
     let base = l .depth - arity .result in
     let is = c .deeper .ensures ∙ ap (λ (k : ℕ). deepest k (getD (l .stack) base 0) (getD (l .stack) (base + 1) 0)) (arity .ensures) in
     let here = found (c .before .before .before .before .before) in
-    costed-step (l .inv) depth-folds 0 here (omega arith) base (omega arith) _ is _ (c .before .is-or .ensures)
+    costed-step (l .inv) depth-folds 0 here (omega arith) base (omega arith) (omega arith) _ is _ (c .before .is-or .ensures)
 
 returns-4 : tie.Need-returns-4 Inv-loop μ-loop
 returns-4 c =
