@@ -1,5 +1,5 @@
 # What can be done here; `make` alone lists it.
-.PHONY: help test print_rule examine_rule console bench compare unused
+.PHONY: help test papers print_rule examine_rule console bench compare unused
 .DEFAULT_GOAL := help
 
 TABLE = 0111
@@ -13,9 +13,12 @@ quiet = mkdir -p target && { $(1) >$(log) 2>&1 || { tail -n 40 $(log); exit 1; }
 help: ## list these commands
 	@sed -n 's/^\([a-z_]*\):[^#]*## /\1\t/p' $(MAKEFILE_LIST) | expand -t 14
 
-test: console ## prove every crate, try the must-fail edits, run the recorded cases; the last line counts them
+test: console papers ## prove every crate, try the must-fail edits, run the recorded cases; the last line counts them
 	@rt fmt --check
 	@rt ci
+
+papers: ## see that the README's table of crates and the files that comments cite are there, where python3 is installed
+	@if command -v python3 >/dev/null; then python3 tools/layers.py --check && python3 tools/citations.py; fi
 
 print_rule: ## print the expression of a rule table: TABLE=0111
 	@$(have_rt)

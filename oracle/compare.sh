@@ -21,15 +21,20 @@ trap 'exit 1' INT TERM
 passed=0
 failed=0
 
-# One recorded file, made in the scratch folder just before.
-compare() {
-    if cmp -s "$scratch/made/$2" "$here/../crates/$1/data/$2"; then
-        echo "$1/data/$2: same"
+# A file or folder made just before, by its path below the scratch folder, and the path below crates/ of the one checked in.
+compare_paths() {
+    if diff -rq -x README.md "$scratch/made/$1" "$here/../crates/$2" >/dev/null; then
+        echo "$2: same"
         passed=$((passed + 1))
     else
-        echo "$1/data/$2: DIFFERS"
+        echo "$2: DIFFERS"
         failed=$((failed + 1))
     fi
+}
+
+# One recorded file of a program.
+compare() {
+    compare_paths "$2" "$1/data/$2"
 }
 
 mkdir "$scratch/made"
@@ -38,22 +43,37 @@ mkdir "$scratch/made"
 "$scratch/build/oracle" transforms "$scratch/made"
 compare replay_transforms small.bin
 compare replay_transforms samples.bin
+compare replay_transforms wrong_small.bin
+compare replay_transforms wrong_samples.bin
 
 "$scratch/build/oracle" expressions "$scratch/made"
 compare replay_rules small.bin
 compare replay_rules samples.bin
+compare replay_rules wrong_small.bin
+compare replay_rules wrong_samples.bin
 
 "$scratch/build/oracle" costs "$scratch/made"
 compare replay_expressions costs.bin
+compare replay_expressions wrong_costs.bin
+
+"$scratch/build/oracle" choices "$scratch/made"
+compare replay_expressions choices.bin
+compare replay_expressions wrong_choices.bin
 
 "$scratch/build/oracle" listings "$scratch/made"
 compare replay_expressions listings.bin
+compare replay_expressions wrong_listings.bin
 
 python3 "$here/expression_cases.py" "$scratch/made"
 compare replay_expressions cases.bin
+compare replay_expressions wrong_cases.bin
 
 python3 "$here/printed_transforms.py" "$scratch/made"
 compare replay_transforms printed.bin
+
+python3 "$here/printed_rules.py" "$scratch/made"
+compare_paths data replay_printing/data
+compare_paths stdout replay_printing/stdout
 
 if python3 -c 'import sympy' >/dev/null 2>&1; then
     python3 "$here/sympy_transforms.py" "$scratch/made"

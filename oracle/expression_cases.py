@@ -1,7 +1,7 @@
 #!/usr/bin/env python3
 """Records cases of the calls that take an expression, in cases.bin of the folder named: every row of document 01's refusal table at its edges,
-and damaged copies of good expressions. It rests on document 01 alone: the model below is written from its text, apart from the library and from
-the original Rust, and the format is in the README beside the recorded file.
+and damaged copies of good expressions; and cases with a wrong outcome in wrong_cases.bin. It rests on document 01 alone: the model below is
+written from its text, apart from the library and from the original Rust, and the format is in the README beside the recorded files.
 """
 
 import random
@@ -258,6 +258,32 @@ def random_cases():
             yield rng.choice(list(whole(n, bad, table)))
 
 
+def wrong():
+    """A right case, and then cases in which one number of the outcome differs: of each call the first result, of a refusal its number and its
+    place, and every result of the calls that have more than one."""
+    rule = b"VA\0VA\1OR"
+    yield case(COSTING, 2, data=rule)
+    for right in (
+        case(READ, 2, data=rule),
+        case(READ, 2, extra=8, data=rule),
+        case(EVALUATE, 2, extra=1, data=rule),
+        case(EXAMINE, 2, entries=4, word=14, data=rule),
+        case(RAW, 2, entries=1, word=14),
+        case(CHEAPER, 2, data=rule, second=b"VA\0"),
+    ):
+        yield changed(right, 32)
+    refused = case(EXAMINE, 2, entries=4, word=6, data=rule)
+    yield changed(refused, 31)
+    yield changed(refused, 32)
+    for at in (32, 34, 36):
+        yield changed(case(COSTING, 2, data=rule), at)
+    yield changed(case(READ, 2, data=rule), 34)
+
+
+def changed(right, at):
+    return right[:at] + bytes([right[at] ^ 1]) + right[at + 1 :]
+
+
 sys.setrecursionlimit(10_000)
 rng = random.Random(5)
 
@@ -267,6 +293,7 @@ def main():
         sys.exit("use: expression_cases.py FOLDER")
     out = b"".join(list(rows()) + list(random_cases()))
     Path(sys.argv[1], "cases.bin").write_bytes(out)
+    Path(sys.argv[1], "wrong_cases.bin").write_bytes(b"".join(wrong()))
 
 
 if __name__ == "__main__":

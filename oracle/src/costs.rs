@@ -1,5 +1,5 @@
-//! Records what the original `anf_expr_cost` and `compute_cost` answer for trees that are built with its own constructors, in costs.bin.
-//! The format is in the README beside the recorded file. The trees come from a fixed sequence of numbers.
+//! Records what the original `anf_expr_cost` and `compute_cost` answer for trees that are built with its own constructors, in costs.bin, and
+//! wrong answers in wrong_costs.bin. The format is in the README beside the recorded files. The trees come from a fixed sequence of numbers.
 
 use std::fs;
 use std::io;
@@ -23,19 +23,36 @@ pub fn record(folder: &Path) -> io::Result<()> {
         let most = [6, 20, 60, 385][k % 4];
         let records = 1 + random.below(most);
         let tree = tree(records, 1 + k % 6, k % 3, &mut random);
-        let costs = compute_cost(&tree).cost;
-        let list = codes(&tree);
-        bytes.extend(number(anf_expr_cost(&tree) as usize));
-        bytes.extend(number(costs.weighted_size as usize));
-        bytes.extend(number(costs.max_depth as usize));
-        bytes.extend(number(list.len()));
-        bytes.extend(nibbles(&list));
+        bytes.extend(item(&tree, answer(&tree)));
     }
-    fs::write(folder.join("costs.bin"), bytes)
+    fs::write(folder.join("costs.bin"), bytes)?;
+    fs::write(folder.join("wrong_costs.bin"), wrong())
+}
+
+/// A right answer, and then what differs from it in one number each.
+fn wrong() -> Vec<u8> {
+    let tree = Expr::or(Expr::or(Expr::variable(0), Expr::variable(1)), Expr::not(Expr::variable(2)));
+    let [cost, size, depth] = answer(&tree);
+    let answers = [[cost, size, depth], [cost + 1, size, depth], [cost, size + 1, depth], [cost, size, depth + 1], [cost, size, depth - 1]];
+    answers.iter().flat_map(|&numbers| item(&tree, numbers)).collect()
+}
+
+/// Cost, size and depth.
+fn answer(tree: &Expr) -> [usize; 3] {
+    let costs = compute_cost(tree).cost;
+    [anf_expr_cost(tree) as usize, costs.weighted_size as usize, costs.max_depth as usize]
+}
+
+fn item(tree: &Expr, answer: [usize; 3]) -> Vec<u8> {
+    let list = codes(tree);
+    let mut bytes: Vec<u8> = answer.iter().flat_map(|&value| number(value)).collect();
+    bytes.extend(number(list.len()));
+    bytes.extend(nibbles(&list));
+    bytes
 }
 
 /// A tree of that many records over that many flags; of the kinds 0, 1, 2 the last is rich in ORs and the first in deep left sides.
-fn tree(records: usize, flags: usize, kind: usize, random: &mut Random) -> Arc<Expr> {
+pub fn tree(records: usize, flags: usize, kind: usize, random: &mut Random) -> Arc<Expr> {
     match records {
         1 if random.below(5) == 0 => Expr::constant(random.next() & 1),
         1 => Expr::variable(random.below(flags) as u32),

@@ -2,6 +2,7 @@
 //! Each subcommand is a module of its own and takes the folder that its files are written to.
 //! It rests on the crate `original`, which `build.sh` makes of the sources handed to it.
 
+mod choices;
 mod costs;
 mod expressions;
 mod listings;
@@ -12,7 +13,7 @@ mod transforms;
 use std::path::Path;
 use std::process::ExitCode;
 
-const USE: &str = "use: oracle (transforms | expressions | costs | listings) FOLDER";
+const USE: &str = "use: oracle (transforms | expressions | costs | choices | listings) FOLDER";
 
 fn main() -> ExitCode {
     let arguments: Vec<String> = std::env::args().skip(1).collect();
@@ -21,6 +22,7 @@ fn main() -> ExitCode {
         ["transforms", folder] => transforms::record(Path::new(folder)),
         ["expressions", folder] => expressions::record(Path::new(folder)),
         ["costs", folder] => costs::record(Path::new(folder)),
+        ["choices", folder] => choices::record(Path::new(folder)),
         ["listings", folder] => listings::record(Path::new(folder)),
         _ => {
             eprintln!("{USE}");

@@ -1,5 +1,6 @@
 //! Records what the original `compute_anf` answers: every table of up to 4 flags in small.bin, and samples of 5 to 16
-//! flags in samples.bin. The formats are in the README beside the recorded files.
+//! flags in samples.bin; and wrong answers in wrong_small.bin and wrong_samples.bin. The formats are in the README beside
+//! the recorded files.
 //! The tables come from a fixed sequence of numbers and from formulas; the coefficients come from the original alone.
 
 use std::fs;
@@ -21,13 +22,16 @@ const KINDS: [fn(usize, &mut Random) -> Vec<u64>; 13] = [
 ];
 
 pub fn record(folder: &Path) -> io::Result<()> {
-    fs::write(folder.join("small.bin"), small())?;
-    fs::write(folder.join("samples.bin"), samples())
+    fs::write(folder.join("small.bin"), small(4))?;
+    fs::write(folder.join("samples.bin"), samples())?;
+    fs::write(folder.join("wrong_small.bin"), wrong_small())?;
+    fs::write(folder.join("wrong_samples.bin"), wrong_samples())
 }
 
-fn small() -> Vec<u8> {
+/// Every table of up to so many flags.
+fn small(flags: u32) -> Vec<u8> {
     let mut bytes = Vec::new();
-    for n in 0..=4 {
+    for n in 0..=flags {
         let settings = 1usize << n;
         for bits in 0..1u64 << settings {
             let table: Vec<u64> = (0..settings).map(|s| bits >> s & 1).collect();
@@ -45,12 +49,45 @@ fn samples() -> Vec<u8> {
         let n = i + 5;
         for k in 0..*count {
             let table = KINDS[k % KINDS.len()](n, &mut random);
-            bytes.push(n as u8);
-            bytes.extend(packed(1 << n, |s| table[s] & 1 != 0));
-            let coefficients = compute_anf(&table, n as u32);
-            bytes.extend(packed(1 << n, |m| coefficients.get(m) != 0));
+            bytes.extend(item(n, &table, &answer(n, &table)));
         }
     }
+    bytes
+}
+
+/// The tables of up to 2 flags, of which the third has a wrong coefficient; the others are missing.
+fn wrong_small() -> Vec<u8> {
+    let mut bytes = small(2);
+    bytes[4] ^= 2;
+    bytes
+}
+
+/// A right answer, and then what differs from it in one bit each: a coefficient, the first, the last, one of the second
+/// word; and the table.
+fn wrong_samples() -> Vec<u8> {
+    let table = random(7, &mut Random::new(7));
+    let right = answer(7, &table);
+    let mut bytes = item(7, &table, &right);
+    for m in [0, 127, 70] {
+        let mut wrong = right.clone();
+        wrong[m] = !wrong[m];
+        bytes.extend(item(7, &table, &wrong));
+    }
+    let mut other = table.clone();
+    other[100] ^= 1;
+    bytes.extend(item(7, &other, &right));
+    bytes
+}
+
+fn answer(n: usize, table: &[u64]) -> Vec<bool> {
+    let coefficients = compute_anf(table, n as u32);
+    (0..1usize << n).map(|m| coefficients.get(m) != 0).collect()
+}
+
+fn item(n: usize, table: &[u64], coefficients: &[bool]) -> Vec<u8> {
+    let mut bytes = vec![n as u8];
+    bytes.extend(packed(1 << n, |s| table[s] & 1 != 0));
+    bytes.extend(packed(1 << n, |m| coefficients[m]));
     bytes
 }
 

@@ -1,10 +1,10 @@
--- Bounds for forms in one word, so of at most six flags: their flags are below 64, and every cost is small.
--- They rest on the cleanup's cost (rules, Size) and on the costs of parts (rules, Cost). Assumes nothing.
---   union-some, flags-below                == of two masks one has a flag; the flags that occur in a form are below 64
+-- Bounds for forms of at most six flags: their flags are below the count of masks, and every cost is small. They rest on the masks of a form (form,
+-- Masks), on the cleanup's cost (laws, Size) and on the costs of parts (laws, Cost).
+--   union-some, flags-below                == of two masks one has a flag; the flags that occur in a form are below the count of masks
 --   raw-limit, cleanup-limit, inner-limit  == raw cost, and the cost of a cleaned form and of a cleaned inner form
 --   covered-limit                          == the literals of the monomials that contain a cube
 --   product-limit, chain-limit             == the cost of a product, and of an OR chain
---   pair-bounds, pair-limit                == two monomials ascend, from 1 to 63; the cost of both products of an absorption
+--   pair-bounds, pair-limit                == two monomials ascend, and are masks above 0; the cost of both products of an absorption
 use mathlib.Core.Bool.{Bool, true, false}
 use mathlib.Core.List.{List, [], _∷_, map}
 use mathlib.Core.Path.{_≡_, refl, subst}
@@ -18,20 +18,22 @@ use borrow.Author.Tests.{ltb-true, ltb-false}
 use Rattle.bits.specs.Bit.{within}
 use Rattle.bits.specs.Range.{Ascending, Below}
 use Rattle.bits.specs.Sum.{sum, union}
-use Rattle.bits.specs.Word.{places}
 use Rattle.bits.proofs.Ascending.{below-keep}
 use Rattle.bits.proofs.Mask.{within-le}
 use Rattle.bits.proofs.Range.{mem-head, mem-tail}
 use Rattle.bits.proofs.Total.{total-keep-le}
 use Rattle.bits.proofs.Union.{union-mem, union-lt}
-use Rattle.bits.proofs.Word.{ascending-places, below-places}
 use Rattle.rules.specs.Cleanup.{covered, stripped, cleanup}
 use Rattle.rules.specs.Form.{cube, orChain, rawCost, literals}
 use Rattle.rules.specs.Monomial.{monomials}
 use Rattle.rules.specs.Tree.{cost}
-use Rattle.rules.proofs.Cost.{cost-cube, cost-orChain, cost-orChain-few, raw-literals, termCost-suc}
-use Rattle.rules.proofs.Covered.{pair-order, ascending-stripped}
-use Rattle.rules.proofs.Size.{cost-cleanup, rawCost-limit}
+use Rattle.laws.proofs.cost.Cost.{cost-cube, cost-orChain, cost-orChain-few, raw-literals, termCost-suc}
+use Rattle.laws.proofs.form.Covered.{pair-order, ascending-stripped}
+use Rattle.laws.proofs.cost.Size.{cost-cleanup, rawCost-limit}
+use Rattle.mask_words.specs.Lookup.{maskCount}
+use Rattle.form.specs.Masks.{masks}
+use Rattle.form.specs.declared.Form.{Form}
+use Rattle.form.proofs.Masks.{ascending-masks, below-masks}
 
 pub union-some : (k : List ℕ) → Ascending k → 2 ≤ length k → 0 < union k
 union-some [] s p = absurd (omega arith)
@@ -40,43 +42,43 @@ union-some (m ∷ o ∷ k) s p =
     let l : List ℕ = m ∷ o ∷ k in
     omega (arith, s .0, within-le o (union l) (union-mem l o (mem-tail m (o ∷ k) o (mem-head o k))))
 
-module _ (w : ℕ) where
-  pub flags-below : union (places 64 w) < 64
-  flags-below = union-lt 6 (places 64 w) (below-places 64 w)
+module _ (f : Form) where
+  pub flags-below : union (masks f) < maskCount
+  flags-below = union-lt 6 (masks f) (below-masks f)
 
-  pub raw-limit : rawCost (places 64 w) ≤ 385
-  raw-limit = rawCost-limit 6 (places 64 w) (omega arith) (ascending-places 64 w) (below-places 64 w)
+  pub raw-limit : rawCost (masks f) ≤ 385
+  raw-limit = rawCost-limit 6 (masks f) (omega arith) (ascending-masks f) (below-masks f)
 
-  pub covered-limit : (c : ℕ) → literals (covered c (places 64 w)) ≤ 193
+  pub covered-limit : (c : ℕ) → literals (covered c (masks f)) ≤ 193
   unfolding covered sum
   covered-limit c =
       omega (
         arith,
-        total-keep-le ones (λ m. within c m) (monomials (places 64 w)),
-        total-keep-le ones (λ m. ltb 0 m) (places 64 w),
-        go (places 64 w) (ascending-places 64 w) raw-limit,
+        total-keep-le ones (λ m. within c m) (monomials (masks f)),
+        total-keep-le ones (λ m. ltb 0 m) (masks f),
+        go (masks f) (ascending-masks f) raw-limit,
       )
     where
       go : (k : List ℕ) → Ascending k → rawCost k ≤ 385 → literals k ≤ 193
       go [] s h = omega arith
       go (m ∷ k) s h = omega (arith, raw-literals (m ∷ k) s (omega arith))
 
-  pub cleanup-limit : cost (cleanup (places 64 w)) ≤ 385
-  cleanup-limit = le-trans (cost-cleanup (places 64 w) (ascending-places 64 w)) raw-limit
+  pub cleanup-limit : cost (cleanup (masks f)) ≤ 385
+  cleanup-limit = le-trans (cost-cleanup (masks f) (ascending-masks f)) raw-limit
 
-  pub inner-limit : (c : ℕ) → cost (cleanup (stripped c (places 64 w))) ≤ 385
+  pub inner-limit : (c : ℕ) → cost (cleanup (stripped c (masks f))) ≤ 385
   unfolding stripped covered
   inner-limit c =
-      let l = places 64 w in
-      let rises = ascending-stripped c l (ascending-places 64 w) in
-      let small = go (covered c l) (below-keep 64 _ (monomials l) (below-keep 64 _ l (below-places 64 w))) in
+      let l = masks f in
+      let rises = ascending-stripped c l (ascending-masks f) in
+      let small = go (covered c l) (below-keep maskCount _ (monomials l) (below-keep maskCount _ l (below-masks f))) in
       le-trans (cost-cleanup (stripped c l) rises) (rawCost-limit 6 (stripped c l) (omega arith) rises small)
     where
-      go : (k : List ℕ) → Below 64 k → Below 64 (map (λ m. m - c) k)
+      go : (k : List ℕ) → Below maskCount k → Below maskCount (map (λ m. m - c) k)
       go [] h = tt
       go (m ∷ k) h = (omega (arith, h .0), go k (h .1))
 
-module _ (m : ℕ) (h : m < 64) where
+module _ (m : ℕ) (h : m < maskCount) where
   pub product-limit : 0 < m → cost (cube m) ≤ 11
   product-limit p = omega (arith, cost-cube m, termCost-suc m p, ones-le 6 m h)
 
@@ -87,12 +89,12 @@ module _ (m : ℕ) (h : m < 64) where
       go true e = omega (arith, ones-le 6 m h, cost-orChain m (ltb-true 1 (ones m) e))
       go false e = omega (arith, cost-orChain-few m (ltb-false 1 (ones m) e))
 
-module _ (w m o : ℕ) (e : monomials (places 64 w) ≡ m ∷ o ∷ []) where
-  pub pair-bounds : (0 < m) × (m < o) × (o < 64)
+module _ (f : Form) (m o : ℕ) (e : monomials (masks f) ≡ m ∷ o ∷ []) where
+  pub pair-bounds : (0 < m) × (m < o) × (o < maskCount)
   pair-bounds =
-      let l = places 64 w in
-      let (first, up) = pair-order l (ascending-places 64 w) m o e in
-      let low : Below 64 (m ∷ o ∷ []) = subst (Below 64) e (below-keep 64 (ltb 0) l (below-places 64 w)) in
+      let l = masks f in
+      let (first, up) = pair-order l (ascending-masks f) m o e in
+      let low : Below maskCount (m ∷ o ∷ []) = subst (Below maskCount) e (below-keep maskCount (ltb 0) l (below-masks f)) in
       (first, up, low .1 .0)
 
   pub pair-limit : (cost (cube m) ≤ 11) × (cost (cube (o - m)) ≤ 11)

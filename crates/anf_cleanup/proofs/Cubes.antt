@@ -1,37 +1,37 @@
--- The search for the best cube: trying every mask that two monomials contain, in ascending order, gives document 01's best cube, because no other mask is
--- a candidate. It rests on the candidates (Candidates) and on the places of a word, lowest first (bits, Word). Assumes nothing.
+-- The search for the best cube: trying every mask that two monomials contain, in ascending order, gives document 01's best cube, because no other
+-- mask is a candidate. It rests on the candidates (Candidates) and on an answer that may be none (search, Positive).
 --   cubes-shared                       == the candidates are among the masks that two monomials contain
 --   fold-tried                         == trying masks one by one is choosing among the candidates of them
---   Searching l b w                    == b is the best of the masks tried before, and the masks of the word w are left to try
---   search-start, search-turn, search-end == all masks are left; one more is tried; none is left
---   search-mask                        == the next mask is a cube below 64
+--   Searching l b k                    == b is the best of the masks tried before, and the masks k are left to try
+--   search-start, search-turn          == all masks are left, and there is no cube and no saving yet; one more is tried
+--   search-none, search-found          == none is left, and there is no cube, or there is one
+--   search-mask, search-fewer          == the next mask is one of six flags, above 0; without it fewer are left
 use mathlib.Core.Bool.{Bool, true, false, not, _&&_}
 use mathlib.Core.List.{List, [], _∷_, _++_, append-nil, foldl}
-use mathlib.Core.Path.{_≡_, refl, sym, ap, _∙_}
+use mathlib.Core.Path.{_≡_, refl, sym, ap, ap₂, _∙_}
 use mathlib.Mathlib.Data.Bool.Basic.{eq-false-of-not-eq-true}
-use Prim.Native.Nat.{ℕ, _+_, _-_, _^_, _<_}
-use native.Mathlib.Nat.{lt-trans}
+use Prim.Native.Nat.{ℕ, _+_, _-_, _<_}
 use native.Mathlib.Omega.{arith}
-use lib.Bits.{bitAnd}
-use lib.Count.{trailingZeros}
-use lib.Dec.{ltb, leb}
-use lib.ListN.{length}
-use borrow.Author.Tests.{ltb-true, lt-ltb, leb-true, le-leb}
-use Rattle.bits.specs.Bit.{bit}
-use Rattle.bits.specs.Range.{from, keep, all, mem}
+use lib.Dec.{leb}
+use lib.ListN.{length, getD, drop, length-drop}
+use lib.Seq.{drop-cons}
+use borrow.Author.Tests.{ltb-true, leb-true, le-leb}
+use Rattle.bits.specs.Range.{from, keep, mem}
 use Rattle.bits.specs.Sum.{union}
-use Rattle.bits.specs.Word.{places}
-use Rattle.bits.proofs.Lowest.{clear-lt, trailing-lt}
 use Rattle.bits.proofs.Mask.{within-le}
-use Rattle.bits.proofs.Range.{from-add, keep-append, keep-keep, keep-ext, keep-none, mem-all, mem-from, mem-keep}
+use Rattle.bits.proofs.Range.{from-add, keep-append, keep-keep, keep-ext, keep-none, mem-all, mem-from, mem-keep, mem-head, mem-tail}
 use Rattle.bits.proofs.Truth.{and-true-l, and-true-r, and-implied}
-use Rattle.bits.proofs.Word.{places-lowest}
 use Rattle.rules.specs.Cleanup.{cleanup, covered, isCube, cubeSaving, better, greatest, bestCube}
 use Rattle.rules.specs.Cleanup as paper
-use Rattle.rules.proofs.Recursion.{cubes, isCube-many}
-use Rattle.anf_cleanup.specs.Plan.{bestOf, tried, InnerKept, Tried, Chosen}
+use Rattle.laws.proofs.value.Recursion.{cubes, isCube-many}
+use Rattle.mask_words.specs.Lookup.{maskCount}
+use Rattle.form.specs.Masks.{masks}
+use Rattle.form.specs.declared.Form.{Form}
+use Rattle.search.specs.Family.{positive}
+use Rattle.search.proofs.Positive.{positive-none, positive-some}
+use Rattle.anf_cleanup.specs.Inner.{bestOf, KnownBest, tried, Tried, Chosen}
 use Rattle.anf_cleanup.specs.declared.Best.{Best}
-use Rattle.anf_cleanup.specs.declared.Choice.the-variants.{Open}
+use Rattle.anf_cleanup.specs.declared.Factor.the-variants.{Found, None}
 use Rattle.anf_cleanup.proofs.Bounds.{flags-below}
 use Rattle.anf_cleanup.proofs.Candidates.{isCube-within}
 
@@ -39,7 +39,7 @@ abbrev twice : List ℕ → ℕ → Bool
 twice l c = leb 2 (length (covered c l))
 
 module _ (l : List ℕ) where
-  pub cubes-shared : union l < 64 → keep (isCube l) (keep (twice l) (from 1 63)) ≡ cubes l
+  pub cubes-shared : union l < maskCount → keep (isCube l) (keep (twice l) (from 1 63)) ≡ cubes l
   cubes-shared h =
       keep-keep (isCube l) (twice l) (from 1 63)
       ∙ keep-ext (λ c. twice l c && isCube l c) (isCube l) (from 1 63)
@@ -72,52 +72,64 @@ module _ (l : List ℕ) where
       go true = refl
       go false = refl
 
-pub record Searching (l : List ℕ) (b : Best) (w : ℕ) : Type 0 where
-  pub fits : w < 2 ^ 64
-  pub nonzero : all (ltb 0) (places 64 w) ≡ true
-  pub best : foldl (tried l) (bestOf b) (places 64 w) .mask ≡ bestCube cleanup l
-  pub inner : InnerKept l b
+pub record Searching (l : List ℕ) (b : Best) (k : List ℕ) : Type 0 where
+  pub inside : (c : ℕ) → mem c k ≡ true → (0 < c) × (c < maskCount)
+  pub best : foldl (tried l) (bestOf b) k .mask ≡ bestCube cleanup l
+  pub known : KnownBest l b
 
-pub search-start : (w r : ℕ) → r < 2 ^ 64 → places 64 r ≡ keep (twice (places 64 w)) (from 1 63)
-    → Searching (places 64 w) (record { cube = 0; saving = 0; inner = 0; choice = Open }) r
+pub search-start : (f : Form) (k : List ℕ) (b : Best) → b .cube ≡ 0 → b .saving ≡ 0 → k ≡ keep (twice (masks f)) (from 1 (maskCount - 1))
+    → Searching (masks f) b k
 unfolding bestCube greatest
-search-start w r h e =
-    let l = places 64 w in
+search-start f k b z v e =
+    let l = masks f in
     let none : paper.Best = record { mask = 0; saving = 0 } in
     record {
-      fits = h;
-      nonzero = rw e (mem-all (ltb 0) (keep (twice l) (from 1 63)) positive);
+      inside = λ c h. range c (ap (mem c) (sym e) ∙ h);
       best =
-          ap (λ (x : List ℕ). foldl (tried l) none x .mask) e
+          ap₂ (λ (c s : ℕ). foldl (tried l) (record { mask = c; saving = s }) k .mask) z v
+          ∙ ap (λ (x : List ℕ). foldl (tried l) none x .mask) e
           ∙ ap (λ (b : paper.Best). b .mask)
-          (fold-tried l (keep (twice l) (from 1 63)) none ∙ ap (foldl (better (cubeSaving cleanup l)) none) (cubes-shared l (flags-below w)));
-      inner = λ z. absurd (omega arith);
+          (fold-tried l (keep (twice l) (from 1 63)) none ∙ ap (foldl (better (cubeSaving cleanup l)) none) (cubes-shared l (flags-below f)));
+      known = λ p. absurd (omega arith);
     }
   where
-    positive : (c : ℕ) → mem c (keep (twice (places 64 w)) (from 1 63)) ≡ true → ltb 0 c ≡ true
-    positive c k =
-        let here = and-true-l (mem c (from 1 63)) _ (sym (mem-keep (twice (places 64 w)) (from 1 63) c) ∙ k) in
-        lt-ltb 0 c (leb-true 1 c (and-true-l (leb 1 c) _ (sym (mem-from 1 63 c) ∙ here)))
+    range : (c : ℕ) → mem c (keep (twice (masks f)) (from 1 63)) ≡ true → (0 < c) × (c < maskCount)
+    range c h =
+        let here = sym (mem-from 1 63 c) ∙ and-true-l (mem c (from 1 63)) _ (sym (mem-keep (twice (masks f)) (from 1 63) c) ∙ h) in
+        (leb-true 1 c (and-true-l (leb 1 c) _ here), ltb-true c 64 (and-true-r (leb 1 c) _ here))
 
-module _ (l : List ℕ) (b : Best) (w : ℕ) (s : Searching l b w) (p : 0 < w) where
-  lowest : places 64 w ≡ trailingZeros 64 w ∷ places 64 (bitAnd w (w - 1))
-  lowest = places-lowest 64 w p (s .fits)
+module _ (l : List ℕ) (b : Best) (k : List ℕ) (s : Searching l b k) (p : 0 < length k) where
+  abbrev next : ℕ
+  next = getD k 0 0
 
-  nonzeros : (ltb 0 (trailingZeros 64 w) && all (ltb 0) (places 64 (bitAnd w (w - 1)))) ≡ true
-  unfolding all
-  nonzeros = rw lowest at (s .nonzero)
+  parts : k ≡ next ∷ drop 1 k
+  parts = drop-cons k 0 0 p
 
-  pub search-mask : (0 < trailingZeros 64 w) × (trailingZeros 64 w < 64)
-  search-mask = (ltb-true 0 (trailingZeros 64 w) (and-true-l _ _ nonzeros), trailing-lt 64 w p (s .fits))
+  pub search-mask : (m : ℕ) → m ≡ next → (0 < m) × (m < maskCount)
+  search-mask m e = s .inside m (ap (mem m) parts ∙ ap (λ (x : ℕ). mem m (x ∷ drop 1 k)) (sym e) ∙ mem-head m (drop 1 k))
 
-  pub search-turn : (r : Best) → Tried l (trailingZeros 64 w) b r → Searching l r (bitAnd w (w - 1))
-  search-turn r t = record {
-    fits = lt-trans (clear-lt 64 w p (s .fits)) (s .fits);
-    nonzero = and-true-r (ltb 0 (trailingZeros 64 w)) _ nonzeros;
-    best = ap (λ (x : paper.Best). foldl (tried l) x (places 64 (bitAnd w (w - 1))) .mask) (t .best) ∙ (rw lowest at (s .best));
-    inner = t .inner (s .inner);
+  pub search-fewer : (q : List ℕ) → q ≡ drop 1 k → length q < length k
+  search-fewer q e = omega (arith, ap length e, length-drop 1 k)
+
+  pub search-turn : (m : ℕ) (q : List ℕ) (r : Best) → m ≡ next → q ≡ drop 1 k → Tried l m b r → Searching l r q
+  search-turn m q r i e t = record {
+    inside = λ c h. s .inside c (ap (mem c) parts ∙ mem-tail next (drop 1 k) c (ap (mem c) (sym e) ∙ h));
+    best =
+        ap₂ (λ (x : paper.Best) (y : List ℕ). foldl (tried l) x y .mask) (t .best ∙ ap (tried l (bestOf b)) i) e
+        ∙ ap (λ (x : List ℕ). foldl (tried l) (bestOf b) x .mask) (sym parts) ∙ s .best;
+    known = t .known (s .known);
   }
 
-pub search-end : (l : List ℕ) (b : Best) (w : ℕ) → Searching l b w → w ≡ 0 → Chosen l b
-unfolding places keep from bit
-search-end l b w s e = record { best = rw e at (s .best); inner = s .inner }
+module _ (l : List ℕ) (b : Best) (k : List ℕ) (s : Searching l b k) (e : length k ≡ 0) where
+  tried-all : b .cube ≡ bestCube cleanup l
+  tried-all = go k e (s .best)
+    where
+      go : (x : List ℕ) → length x ≡ 0 → foldl (tried l) (bestOf b) x .mask ≡ bestCube cleanup l → b .cube ≡ bestCube cleanup l
+      go [] z h = h
+      go (c ∷ x) z h = absurd (omega arith)
+
+  pub search-none : b .cube ≡ 0 → Chosen l None
+  search-none z = record { best = positive-none (bestCube cleanup l) (sym tried-all ∙ z); known = tt }
+
+  pub search-found : 0 < b .cube → Chosen l (Found b)
+  search-found p = record { best = positive-some (b .cube) p ∙ ap positive tried-all; known = s .known p }

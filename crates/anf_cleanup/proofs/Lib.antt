@@ -4,3 +4,5 @@ pub mod Rules
 pub mod Plans
 pub mod Cubes
 pub mod Saving
+pub mod Least
+pub mod Determined

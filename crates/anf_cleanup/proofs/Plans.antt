@@ -1,9 +1,9 @@
 -- Plans and the trees that they make: the best after the candidate of a rule, and what each choice's tree costs.
--- It rests on the definitions of specs/Plan, on the rules' equations (Rules) and on the raw form's cost (rules, Cost). Assumes nothing.
+-- It rests on the definitions of specs/Plan, on the rules' equations (Rules) and on the raw form's cost (laws, Cost).
 --   planned-chosen                                 == the plan of a choice, for the tree that it makes
 --   planned-right, right-open                      == a plan's choice is right, and so is one that is left open
---   improved-none, improved-one, improved-kept     == a rule with no candidate; with one that costs strictly less than the best, and with one that does not
---   planned-contest, planned-single                == the raw form, and then the candidates of rules 2, 3 and 4 in turn; with one monomial there are none
+--   improved-none, improved-one, improved-kept     == a rule with no candidate; with one that costs less than the best, and with one that does not
+--   planned-contest, planned-single                == the raw form, then the candidates of rules 2, 3 and 4; with one monomial there are none
 --   cost-constant, cost-family, cost-raw           == what the trees of the choices cost; a constant 1 in front costs 2
 --   cost-partial, cost-whole, cost-rest            == so of a partial OR, of a cube that covers every mask, and of one that leaves a remainder
 --   cost-absorption                                == and of an absorption
@@ -22,8 +22,9 @@ use Rattle.rules.specs.Cleanup.{cleanup, family, atop, singles, isFamily, parti
 use Rattle.rules.specs.Form.{cube, orChain, rawForm, rawCost}
 use Rattle.rules.specs.Monomial.{constant, monomials}
 use Rattle.rules.specs.Tree.{Tree, AN, NO, cost}
-use Rattle.rules.proofs.Cost.{cost-rawForm}
-use Rattle.anf_cleanup.specs.Plan.{built, Allowed, rank, Right, Parts, Planned, Improved}
+use Rattle.laws.proofs.cost.Cost.{cost-rawForm}
+use Rattle.anf_cleanup.specs.Inner.{Improved}
+use Rattle.anf_cleanup.specs.Plan.{built, Allowed, rank, Right, Parts, Planned}
 use Rattle.anf_cleanup.specs.declared.Choice.{Choice}
 use Rattle.anf_cleanup.specs.declared.Choice.the-variants.{Constant, Family, Raw, Partial, Cube, Absorption, Open}
 use Rattle.anf_cleanup.specs.declared.Plan.{Plan}
@@ -62,7 +63,8 @@ planned-contest l p q r s h e raw second third fourth =
 
 pub planned-single : (l : List ℕ) (p : Plan) → length (monomials l) ≡ 1 → isFamily l ≡ false → Planned l (rawForm l) p → Planned l (cleanup l) p
 planned-single l p h e raw =
-    planned-contest l p p p p (omega arith) e raw (improved-none l _ p (partialOr-few l (omega arith))) (improved-none l _ p (commonCube-few l (omega arith)))
+    planned-contest l p p p p (omega arith) e raw (improved-none l _ p (partialOr-few l (omega arith)))
+    (improved-none l _ p (commonCube-few l (omega arith)))
     (improved-none l _ p (absorption-none l (omega arith)))
 
 -- ---- costs

@@ -1,5 +1,5 @@
 -- The cleanup's equations, one for each path of the code: which case of a turn a form is, and which candidate a rule has. Each tree is named by the
--- choice that makes it. They rest on the cleanup's own equation (rules, Recursion) and on the chosen masks (Candidates). Assumes nothing.
+-- choice that makes it. They rest on the cleanup's own equation (laws, Recursion) and on the chosen masks (Candidates).
 --   cleanup-constant, cleanup-family, cleanup-contest   == no monomials; a whole family; the contest, rule by rule
 --   family-singles                                      == a whole family has a single flag
 --   partialOr-few, commonCube-few                       == with too few monomials, rules 2 and 3 have no candidate
@@ -19,11 +19,12 @@ use borrow.Author.Tests.{ltb-true, le-leb, lt-leb, eq-eqb, ne-eqb}
 use Rattle.bits.specs.Bit.{within}
 use Rattle.bits.specs.Range.{same}
 use Rattle.bits.proofs.Truth.{and-true-l}
-use Rattle.rules.specs.Cleanup.{family, atop, singles, isFamily, bestFamily, partialAt, partialOr, bestCube, cubeAt, commonCube, absorb, absorption, cheaper, contest, turn, cleanup}
+use Rattle.rules.specs.Cleanup.{family, atop, singles, isFamily, bestFamily, partialAt, partialOr, bestCube}
+use Rattle.rules.specs.Cleanup.{cubeAt, commonCube, absorb, absorption, cheaper, contest, turn, cleanup}
 use Rattle.rules.specs.Form.{cube, rawForm}
 use Rattle.rules.specs.Monomial.{constant, monomials}
 use Rattle.rules.specs.Tree.{Tree, AN, NO}
-use Rattle.rules.proofs.Recursion.{cleanup-turn}
+use Rattle.laws.proofs.value.Recursion.{cleanup-turn}
 use Rattle.anf_cleanup.specs.Plan.{only, built}
 use Rattle.anf_cleanup.specs.declared.Choice.the-variants.{Constant, Family, Partial, Cube, Absorption}
 use Rattle.anf_cleanup.proofs.Candidates.{family-many, cube-many}
@@ -82,28 +83,27 @@ pub commonCube-few : (l : List ℕ) → length (monomials l) < 2 → commonCube 
 unfolding commonCube
 commonCube-few l h = ap (λ (b : Bool). gated b (cubeAt cleanup l (bestCube cleanup l))) (lt-leb 2 (length (monomials l)) h)
 
-module _ (l : List ℕ) (m : ℕ) (e : m ≡ bestFamily l) where
-  pub partialOr-none : m ≡ 0 → partialOr cleanup l ≡ []
+module _ (l : List ℕ) where
+  pub partialOr-none : bestFamily l ≡ 0 → partialOr cleanup l ≡ []
   unfolding partialOr partialAt
-  partialOr-none z = gated-none (leb 3 (length (monomials l))) (partialAt cleanup l (bestFamily l)) (ap (partialAt cleanup l) (sym e ∙ z))
+  partialOr-none e = gated-none (leb 3 (length (monomials l))) (partialAt cleanup l (bestFamily l)) (ap (partialAt cleanup l) e)
 
-  pub partialOr-some : 0 < m → partialOr cleanup l ≡ built (Partial m) l ∷ []
+  pub partialOr-some : (m : ℕ) → m ≡ bestFamily l → 0 < m → partialOr cleanup l ≡ built (Partial m) l ∷ []
   unfolding partialOr partialAt
-  partialOr-some p =
+  partialOr-some m e p =
       ap₂ (λ (b : Bool) (x : ℕ). gated b (partialAt cleanup l x)) (le-leb 3 (length (monomials l)) (family-many l m e p)) (sym e) ∙ at m p
     where
       at : (x : ℕ) → 0 < x → partialAt cleanup l x ≡ built (Partial x) l ∷ []
       at zero h = absurd (omega arith)
       at (suc x) h = refl
 
-module _ (l : List ℕ) (c : ℕ) (e : c ≡ bestCube cleanup l) where
-  pub commonCube-none : c ≡ 0 → commonCube cleanup l ≡ []
+  pub commonCube-none : bestCube cleanup l ≡ 0 → commonCube cleanup l ≡ []
   unfolding commonCube cubeAt
-  commonCube-none z = gated-none (leb 2 (length (monomials l))) (cubeAt cleanup l (bestCube cleanup l)) (ap (cubeAt cleanup l) (sym e ∙ z))
+  commonCube-none e = gated-none (leb 2 (length (monomials l))) (cubeAt cleanup l (bestCube cleanup l)) (ap (cubeAt cleanup l) e)
 
-  pub commonCube-some : 0 < c → commonCube cleanup l ≡ built (Cube c) l ∷ []
+  pub commonCube-some : (c : ℕ) → c ≡ bestCube cleanup l → 0 < c → commonCube cleanup l ≡ built (Cube c) l ∷ []
   unfolding commonCube cubeAt
-  commonCube-some p =
+  commonCube-some c e p =
       ap₂ (λ (b : Bool) (x : ℕ). gated b (cubeAt cleanup l x)) (le-leb 2 (length (monomials l)) (cube-many l c e p)) (sym e) ∙ at c p
     where
       at : (x : ℕ) → 0 < x → cubeAt cleanup l x ≡ built (Cube x) l ∷ []

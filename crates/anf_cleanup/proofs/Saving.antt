@@ -1,6 +1,6 @@
--- What a cube saves, from the literals of the monomials that it covers. And the best after a cube is tried, by what it saves, or by the most that it can
--- save. It rests on the literals of covered monomials (rules, Literals), on raw cost by literals (rules, Cost), and on the cleanup's cost and what it is
--- at least (rules, Size and Least). Assumes nothing.
+-- What a cube saves, from the literals of the monomials that it covers. And the best after a cube is tried, by what it saves, or by the most that it
+-- can save. It rests on the literals of covered monomials (laws, Literals), on raw cost by literals (laws, Cost), and on the cleanup's cost and
+-- what it is at least (laws, Size; Least).
 --   tried-skipped                  == a mask that is no candidate leaves the best as it is
 --   Candidate l c k                == c is a candidate cube of the form l, and k is its stripped form
 --   inner-many                     == then k has two masks or more
@@ -29,13 +29,14 @@ use Rattle.rules.specs.Cleanup as paper
 use Rattle.rules.specs.Form.{cube, rawCost, literals}
 use Rattle.rules.specs.Monomial.{constant}
 use Rattle.rules.specs.Tree.{cost}
-use Rattle.rules.proofs.Cost.{cost-cube, termCost-suc, raw-literals}
-use Rattle.rules.proofs.Covered.{covered-within, ascending-covered, ascending-stripped}
-use Rattle.rules.proofs.Least.{least-cleanup}
-use Rattle.rules.proofs.Literals.{literals-covered}
-use Rattle.rules.proofs.Recursion.{isCube-many}
-use Rattle.rules.proofs.Size.{cost-cleanup}
-use Rattle.anf_cleanup.specs.Plan.{bestOf, tried, Right, gross, least, Known, Tried}
+use Rattle.laws.proofs.cost.Cost.{cost-cube, termCost-suc, raw-literals}
+use Rattle.laws.proofs.form.Covered.{covered-within, ascending-covered, ascending-stripped}
+use Rattle.anf_cleanup.proofs.Least.{least-cleanup}
+use Rattle.laws.proofs.form.Literals.{literals-covered}
+use Rattle.laws.proofs.value.Recursion.{isCube-many}
+use Rattle.laws.proofs.cost.Size.{cost-cleanup}
+use Rattle.anf_cleanup.specs.Inner.{bestOf, tried, gross, least, Known, Tried}
+use Rattle.anf_cleanup.specs.Plan.{Right}
 use Rattle.anf_cleanup.specs.declared.Best.{Best}
 use Rattle.anf_cleanup.specs.declared.Choice.{Choice}
 use Rattle.anf_cleanup.specs.declared.Choice.the-variants.{Open}
@@ -51,7 +52,7 @@ module _ (l : List ℕ) (c : ℕ) (b : Best) where
   turned t e = ap (λ (x : Bool). elim x as (λ _. paper.Best) [ true ↦ better (cubeSaving cleanup l) (bestOf b) c | false ↦ bestOf b ]) e
 
   pub tried-skipped : isCube l c ≡ false → Tried l c b b
-  tried-skipped e = record { best = sym (turned false e); inner = λ h. h }
+  tried-skipped e = record { best = sym (turned false e); known = λ h. h }
 
   settled : (v : ℕ) → isCube l c ≡ true → v ≡ cubeSaving cleanup l c → (t : Bool) → ltb (b .saving) v ≡ t
       → tried l (bestOf b) c ≡ elim t as (λ _. paper.Best) [ true ↦ record { mask = c; saving = v } | false ↦ bestOf b ]
@@ -131,13 +132,13 @@ module _ (l : List ℕ) (b c : Best) (k : Known l c) where
   pub tried-more : b .saving < c .saving → Tried l (c .cube) b c
   tried-more m = record {
     best = sym (settled l (c .cube) b (c .saving) (k .test) (k .saving) true (lt-ltb (b .saving) (c .saving) m));
-    inner = λ _ _. k .inner;
+    known = λ _ _. k;
   }
 
   pub tried-kept : c .saving ≤ b .saving → Tried l (c .cube) b b
   tried-kept m = record {
     best = sym (settled l (c .cube) b (c .saving) (k .test) (k .saving) false (le-ltb (b .saving) (c .saving) m));
-    inner = λ i. i;
+    known = λ i. i;
   }
 
 module _ (l : List ℕ) (c : ℕ) (k : List ℕ) (u : Candidate l c k) where

@@ -5,30 +5,17 @@
 --   rank c               == 1 where the choice is left open, else 0
 --   Right c l            == the choice c makes the cleaned form of l, by a rule that applies
 --   Parts c l i r        == i and r are right for what the choice c leaves to clean of the form l: the inner form and the remainder
---   Planned l t p        == the plan p makes the tree t of the form l, by a rule that applies, and tells its cost and choices that are right for its parts
---   Improved l us p q    == where p plans the best tree so far, q plans the best after the candidates us
---   bestOf b             == the code's best as document 01's search keeps it
---   InnerOf l b          == b keeps the cost of the cleaned inner form of its cube in l, and a choice that is right for it
---   InnerKept l b        == so where b has a cube
---   tried l b c          == document 01's best after the mask c is tried, where b was the best before
---   Tried l c b r        == so of the code's b and r, which keep the cost of the cleaned inner form too
---   gross c l            == what the cube c saves in the form l before its inner form is paid for
---   least k              == no cleaned form of k costs less: the OR chain of its flags, and 2 more for a constant 1
---   Known l b            == the cube of b saves what b says, and its inner form's cost and choice are right
---   Chosen l b           == b is the best cube of the form l with the cost of the cleaned inner form, or no cube
-use mathlib.Core.Bool.{true, false, not}
-use mathlib.Core.List.{List, [], _∷_, foldl}
+--   Planned l t p        == the plan p makes the tree t of the form l, by a rule that applies, with its cost and choices that are right for its parts
+use mathlib.Core.Bool.{true, not}
+use mathlib.Core.List.{List, [], _∷_}
 use mathlib.Core.Path.{_≡_}
-use Prim.Native.Nat.{ℕ, _+_, _-_, _*_, _<_}
-use Rattle.bits.specs.Bit.{digit, within}
+use Prim.Native.Nat.{ℕ, _<_}
+use Rattle.bits.specs.Bit.{within}
 use Rattle.bits.specs.Range.{keep, mem}
-use Rattle.bits.specs.Sum.{union}
-use Rattle.rules.specs.Cleanup.{cleanup, family, singles, atop, isFamily, bestFamily, withRest, covered, stripped, absorption, cheaper, isCube, cubeSaving, better, bestCube}
-use Rattle.rules.specs.Cleanup as paper
-use Rattle.rules.specs.Form.{cube, orChain, rawForm, rawCost}
+use Rattle.rules.specs.Cleanup.{cleanup, family, singles, atop, isFamily, bestFamily, withRest, stripped, absorption, bestCube}
+use Rattle.rules.specs.Form.{cube, orChain, rawForm}
 use Rattle.rules.specs.Monomial.{constant}
 use Rattle.rules.specs.Tree.{Tree, CO, AN, XO, cost}
-use Rattle.anf_cleanup.specs.declared.Best.{Best}
 use Rattle.anf_cleanup.specs.declared.Choice.{Choice}
 use Rattle.anf_cleanup.specs.declared.Choice.the-variants.{Constant, Family, Raw, Partial, Cube, Absorption, Open}
 use Rattle.anf_cleanup.specs.declared.Plan.{Plan}
@@ -84,42 +71,3 @@ pub record Planned (l : List ℕ) (t : Tree) (p : Plan) : Type 0 where
   pub allowed : Allowed (p .choice) l
   pub closed : rank (p .choice) ≡ 0
   pub parts : Parts (p .choice) l (p .inner) (p .rest)
-
-abbrev pub Improved : List ℕ → List Tree → Plan → Plan → Type 0
-Improved l us p q = (t : Tree) → Planned l t p → Planned l (foldl cheaper t us) q
-
--- the best so far, as the paper's search keeps it
-abbrev pub bestOf : Best → paper.Best
-bestOf b = record { mask = b .cube; saving = b .saving }
-
--- the cost and the choice that are kept with a cube are those of its inner form
-pub record InnerOf (l : List ℕ) (b : Best) : Type 0 where
-  pub cost : b .inner ≡ cost (cleanup (stripped (b .cube) l))
-  pub choice : Right (b .choice) (stripped (b .cube) l)
-
-abbrev pub InnerKept : List ℕ → Best → Type 0
-InnerKept l b = 0 < b .cube → InnerOf l b
-
--- one more mask: a candidate cube replaces the best if it saves strictly more
-unfoldable pub tried : List ℕ → paper.Best → ℕ → paper.Best
-tried l b c = elim (isCube l c) [ true ↦ better (cubeSaving cleanup l) b c | false ↦ b ]
-
-pub record Tried (l : List ℕ) (c : ℕ) (b r : Best) : Type 0 where
-  pub best : bestOf r ≡ tried l (bestOf b) c
-  pub inner : InnerKept l b → InnerKept l r
-
--- "raw cost of the covered monomials, without the constant, less 1 less the cube's cost"
-unfoldable pub gross : ℕ → List ℕ → ℕ
-gross c l = rawCost (covered c l) - 1 - cost (cube c)
-
-unfoldable pub least : List ℕ → ℕ
-least k = cost (orChain (union k)) + 2 * digit (constant k)
-
-pub record Known (l : List ℕ) (b : Best) : Type 0 where
-  pub test : isCube l (b .cube) ≡ true
-  pub saving : b .saving ≡ cubeSaving cleanup l (b .cube)
-  pub inner : InnerOf l b
-
-pub record Chosen (l : List ℕ) (b : Best) : Type 0 where
-  pub best : b .cube ≡ bestCube cleanup l
-  pub inner : InnerKept l b

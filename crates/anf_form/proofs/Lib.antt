@@ -1,5 +1,3 @@
-pub mod Digits
-pub mod Layer
-pub mod Runs
-pub mod Told
-pub mod Levels
+pub mod Held
+pub mod Listed
+pub mod Injective

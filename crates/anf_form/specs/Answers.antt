@@ -3,7 +3,6 @@
 --   rawCostOf r      == raw costing's answer: the cost, or a refusal
 use mathlib.Core.List.{List}
 use Prim.Native.Nat.{ℕ}
-use lib.Dec.{eqb}
 use Rattle.rules.specs.Calls as paper
 use Rattle.rules.specs.Outcome.{Outcome, gives, refuses, front}
 use Rattle.anf_form.specs.declared.Listing.{Listing}
@@ -13,7 +12,7 @@ use Rattle.anf_form.specs.declared.RawCost.the-variants as raws
 
 -- `Listed`: the constant, and the first `count` entries of the buffer
 abbrev pub listingOf : List ℕ → Listing → Outcome paper.Listing
-listingOf out (Listed f) = gives (record { constant = eqb (f .constant) 1; masks = front (f .count) out })
+listingOf out (Listed f) = gives (record { constant = f .constant; masks = front (f .count) out })
 listingOf out (Refused r) = refuses (r .number) (r .place)
 
 abbrev pub rawCostOf : raw.RawCost → Outcome ℕ

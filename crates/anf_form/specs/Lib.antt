@@ -1,3 +1,2 @@
 pub mod Answers
-pub mod Degree
-pub mod Stored
+pub mod Inner

@@ -1,23 +1,25 @@
-// Monomials degree by degree. In word i of the coefficients those of degree d are the word's bits at the masks below 64 that have d - ones(i) ones,
-// so each set coefficient is visited once.
-ghost use mathlib.Core.Path.{_≡_};
+// Monomials degree by degree. The coefficients of one word are those of a form of six flags, and the flags above these are the word's index: a mask
+// of degree d in word i is one of degree d - ones(i) in that form. So each set coefficient is visited once.
+use form::Form;
 ghost use mathlib.Core.List.{map};
-ghost use Prim.Native.Nat.{_+_, _*_, _^_, _≤_};
-ghost use lib.Count;
-ghost use lib.Dec.{eqb};
+ghost use mathlib.Core.Path.{_≡_};
+ghost use Prim.Native.Nat.{_+_, _*_, _^_, _≤_, _<_};
 ghost use lib.ListN.{length};
 ghost use lib.Seq.{sets};
-ghost use Rattle.bits.specs.Range.{keep, Below};
-ghost use Rattle.bits.specs.Word.{places};
+ghost use Rattle.bits.specs.Range.{Below};
+ghost use Rattle.bits.specs.Stored.{Room, Stored};
 ghost use Rattle.rules.specs.Monomial.{monomials, ordered};
-ghost use Rattle.anf_form.specs.Degree.{held, ofDegree, layer};
-ghost use Rattle.anf_form.specs.Stored.{Stored};
+ghost use Rattle.form.specs.Masks.{masks};
+ghost use Rattle.mask_words.specs.inner.Degree.{ofDegree};
+ghost use Rattle.anf_form.specs.Inner.{held, block, ofBlock};
 
-// How many ones a word has.
-pub fn ones(word: u64) -> usize
-    ensures { λ r. ⌜ (r ≡ Count.ones word) × (r ≤ 64) ⌝ }
+// The coefficients of word i, as a form of six flags.
+pub fn form_at(i: usize, coefficients: &[u64]) -> Form
+    requires { ⌜ i < length (now coefficients) ⌝ }
+    ensures { λ r. ⌜ masks r ≡ block i (now (coefficients .entry)) ⌝ }
 {
-    u64::count_ones(word) as usize
+    let word = coefficients[i];
+    Form { word }
 }
 
 // How many coefficients are 1 in the first `words` words.
@@ -27,7 +29,7 @@ pub fn count(words: usize, coefficients: &[u64]) -> usize
 {
     let mut total = 0;
     for i in 0..words {
-        total = total + ones(coefficients[i]);
+        total = total + form_at(i, coefficients).size();
     }
     total
 }
@@ -54,55 +56,25 @@ fn list_degree(
     at: usize,
 ) -> usize
     requires { ⌜ (words ≤ length (now coefficients)) × (words ≤ 1024) ⌝ }
-    requires { ⌜ at + length (ofDegree degree (held words (now coefficients))) ≤ length (now out) ⌝ }
-    ensures { λ r. ⌜ Stored (now (out .entry)) at (ofDegree degree (held words (now (coefficients .entry)))) (now (out .exit)) r ⌝ }
+    requires { ⌜ Room (ofDegree degree (held words (now coefficients))) at (now out) ⌝ }
+    ensures { λ r. ⌜ Stored (ofDegree degree (held words (now (coefficients .entry)))) at r (now (out .entry)) (now (out .exit)) ⌝ }
 {
     let mut next = at;
     for i in 0..words {
-        next = list_word(of_degree(degree, i, coefficients[i]), 64 * i, out, next);
+        next = list_block(degree, i, coefficients, out, next);
     }
     next
 }
 
-// The coefficients of one degree in word i.
-fn of_degree(degree: usize, i: usize, word: u64) -> u64
-    ensures { λ r. ⌜ places 64 r ≡ keep (λ j. eqb (Count.ones (64 * i + j)) degree) (places 64 word) ⌝ }
+// Those in word i.
+fn list_block(degree: usize, i: usize, coefficients: &[u64], out: &mut [u32], at: usize) -> usize
+    requires { ⌜ (i < length (now coefficients)) × (i < 1024) ⌝ }
+    requires { ⌜ Room (ofBlock degree i (now coefficients)) at (now out) ⌝ }
+    ensures { λ r. ⌜ Stored (map (λ j. 64 * i + j) (ofBlock degree i (now (coefficients .entry)))) at r (now (out .entry)) (now (out .exit)) ⌝ }
 {
-    let above = ones(i as u64);
+    let above = mask_words::flag_count(i);
     if degree < above {
-        return 0;
+        return at;
     }
-    word & with_ones(degree - above)
-}
-
-// The masks below 64 that have that many ones, as a word.
-pub fn with_ones(count: usize) -> u64
-    ensures { λ r. ⌜ r ≡ layer count ⌝ }
-{
-    match count {
-        0 => 0x0000_0000_0000_0001,
-        1 => 0x0000_0001_0001_0116,
-        2 => 0x0001_0116_0116_1668,
-        3 => 0x0116_1668_1668_6880,
-        4 => 0x1668_6880_6880_8000,
-        5 => 0x6880_8000_8000_0000,
-        6 => 0x8000_0000_0000_0000,
-        _ => 0,
-    }
-}
-
-// The masks of a word, counted from `base`, from place `at` of `out` on; the place after them.
-pub fn list_word(word: u64, base: usize, out: &mut [u32], at: usize) -> usize
-    requires { ⌜ (base ≤ 65536) × (at + length (places 64 word) ≤ length (now out)) ⌝ }
-    ensures { λ r. ⌜ Stored (now (out .entry)) at (map (λ j. base + j) (places 64 word)) (now (out .exit)) r ⌝ }
-{
-    let mut left = word;
-    let mut next = at;
-    while left != 0 {
-        let place = u64::trailing_zeros(left) as usize;
-        out[next] = (base + place) as u32;
-        next = next + 1;
-        left = left & (left - 1);
-    }
-    next
+    form_at(i, coefficients).list_degree(degree - above, 64 * i, out, at)
 }

@@ -1,6 +1,6 @@
 -- The XOR over subsets between words: to XOR each word that has bit j in its place with the word 2 ^ j places before is one flag, 6 + j, of the
 -- coefficients in the words, and block after block of 2 ^ (j + 1) words does that for all. It rests on the laws of bits (bits, Bit and Mask), of
--- packed coefficients (rules, Packed) and of one flag (Flag). Assumes nothing.
+-- packed coefficients (laws, Packed) and of one flag (Flag).
 --   joined-low, joined-high    == a word whose place lacks bit j, and one whose place has it
 --   Joined j ws base vs        == vs are the words ws, joined at bit j up to base, where a block begins
 --   joined-none, joined-next   == before the first block, and one block more
@@ -22,9 +22,9 @@ use Rattle.bits.proofs.Truth.{xor-false}
 use Rattle.bits.proofs.Bit.{bit-first, bit-up, bit-shr, bit-xor}
 use Rattle.bits.proofs.Mask.{within-le, within-pow}
 use Rattle.rules.specs.Coefficient.{packed}
-use Rattle.rules.proofs.Packed.{packed-at}
-use Rattle.anf_transform.specs.Change.{Changed}
-use Rattle.anf_transform.specs.Flag.{along, lowest, pairXor, joined, Holds}
+use Rattle.laws.proofs.transform.Packed.{packed-at}
+use Rattle.anf_transform.specs.inner.Change.{Changed}
+use Rattle.anf_transform.specs.inner.Flag.{along, lowest, pairXor, joined, Holds}
 use Rattle.anf_transform.proofs.Change.{changed-none}
 use Rattle.anf_transform.proofs.Flag.{lowest-step}
 

@@ -1,4 +1,4 @@
--- A loop that changes the words of a list in place, one after the other. It rests on the laws of stores (lib.Seq). Assumes nothing.
+-- A loop that changes the words of a list in place, one after the other. It rests on the laws of stores (lib.Seq).
 --   changed-none       == before the first turn
 --   changed-next       == one turn: a store at the next place
 use mathlib.Core.Bool.{Bool, true, false}
@@ -10,7 +10,7 @@ use lib.Dec.{eqb}
 use lib.ListN.{length, getD, set, length-set}
 use lib.Seq.{getD-set-same, getD-set-other}
 use borrow.Author.Tests.{eqb-true, eqb-false}
-use Rattle.anf_transform.specs.Change.{Changed}
+use Rattle.anf_transform.specs.inner.Change.{Changed}
 
 pub changed-none : (a : ℕ) (g : ℕ → ℕ) (ws : List ℕ) → Changed a a g ws ws
 changed-none a g ws = record { same = refl; before = λ i l. refl; here = λ i l h. absurd (omega arith); after = λ i l. refl }

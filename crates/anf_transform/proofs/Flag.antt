@@ -1,5 +1,5 @@
 -- The XOR over subsets flag by flag: with no flag it is the function, each further flag adds one turn of `along`, and with all flags it is the
--- coefficient. It rests on the coefficient's split along the highest flag (rules, Mobius) and on the laws of bits (bits, Bit). Assumes nothing.
+-- coefficient. It rests on the coefficient's split along the highest flag (laws, Mobius) and on the laws of bits (bits, Bit).
 --   along-ext                  == functions that agree up to m
 --   lowest-block               == at a mask cut above its k lowest flags
 --   lowest-zero, lowest-step   == no flag, and one flag more
@@ -17,9 +17,9 @@ use Rattle.bits.specs.Bit.{_⊕_, bit, digit}
 use Rattle.bits.proofs.Truth.{xor-false, xor-comm}
 use Rattle.bits.proofs.Bit.{mod-pow-suc}
 use Rattle.rules.specs.Coefficient.{coefficient, wordCount, packed}
-use Rattle.rules.proofs.Mobius.{coefficient-zero, coefficient-low, coefficient-high, coefficient-lower, coefficient-ext}
-use Rattle.rules.proofs.Packed.{wordCount-room}
-use Rattle.anf_transform.specs.Flag.{along, lowest, Holds}
+use Rattle.laws.proofs.transform.Mobius.{coefficient-zero, coefficient-low, coefficient-high, coefficient-lower, coefficient-ext}
+use Rattle.laws.proofs.transform.Packed.{wordCount-room}
+use Rattle.anf_transform.specs.inner.Flag.{along, lowest, Holds}
 
 pub along-ext : (k : ℕ) (f g : ℕ → Bool) (m : ℕ) → ((i : ℕ) → i ≤ m → f i ≡ g i) → along k f m ≡ along k g m
 unfolding along

@@ -1,5 +1,5 @@
 -- The XOR over subsets inside one word: a mask, a shift and an XOR add one flag, and the six in turn make `inWord`.
--- It rests on the laws of bits and of shifts (bits, Bit and Shift) and on those flag by flag (Flag). Assumes nothing.
+-- It rests on the laws of bits and of shifts (bits, Bit and Shift) and on those flag by flag (Flag).
 --   lacking k                   == the mask whose ones below 64 stand at the places that lack flag k
 --   joinWord k w, bit-join      == one line of the code: the bits of w that lack flag k are XORed into those that have it, which is `along`
 --   joinedWord k w, joined-six  == the k lowest flags in turn; all six make `inWord`
@@ -25,10 +25,10 @@ use Rattle.bits.proofs.Shift.{bit-shl-in, bit-shl-in-low}
 use Rattle.bits.proofs.Word.{word-ext, bit-word-keep}
 use Rattle.rules.specs.Coefficient.{coefficient, packed}
 use Rattle.rules.specs.Monomial.{form}
-use Rattle.rules.proofs.Mobius.{coefficient-lower, coefficient-ext}
-use Rattle.rules.proofs.Packed.{packed-at}
-use Rattle.anf_transform.specs.Change.{Changed}
-use Rattle.anf_transform.specs.Flag.{along, lowest, inWord, Holds}
+use Rattle.laws.proofs.transform.Mobius.{coefficient-lower, coefficient-ext}
+use Rattle.laws.proofs.transform.Packed.{packed-at}
+use Rattle.anf_transform.specs.inner.Change.{Changed}
+use Rattle.anf_transform.specs.inner.Flag.{along, lowest, inWord, Holds}
 use Rattle.anf_transform.proofs.Flag.{along-ext, lowest-zero, lowest-step, lowest-all}
 
 abbrev pub lacking : ℕ → ℕ

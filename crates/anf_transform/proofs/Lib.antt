@@ -4,5 +4,5 @@ pub mod Change
 pub mod AcrossWords
 pub mod Words
 pub mod Unpacked
-pub mod Told
-pub mod TableForm
+pub mod Filling
+pub mod Injective

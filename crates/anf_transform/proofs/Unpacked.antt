@@ -1,5 +1,5 @@
 -- Words that give way to their bits, one entry each, the last word first: what has been done down to word i, one word further, and at the end.
--- It rests on the laws of runs of stores (Stores) and of coefficient words (rules, Packed; packed_anf, Room). Assumes nothing.
+-- It rests on the laws of runs of stores (bits, Stores) and of coefficient words (laws, Packed; packed_anf, Room).
 --   unpacked n l i                             == l with an entry a bit, from word i's first on
 --   unpacked-none, unpacked-more, unpacked-all == no word yet, one word more, and all words
 --   getD-unpacked                              == the words below are as they were
@@ -16,7 +16,7 @@ use Rattle.bits.specs.Range.{from, upto}
 use Rattle.bits.proofs.Range.{from-add, from-map}
 use Rattle.rules.specs.Coefficient.{wordCount, packed}
 use Rattle.bits.proofs.Tabulated.{length-map-upto, getD-map-upto, map-upto-of}
-use Rattle.rules.proofs.Packed.{wordCount-room, packed-at}
+use Rattle.laws.proofs.transform.Packed.{wordCount-room, packed-at}
 use Rattle.packed_anf.proofs.Room.{Room, room}
 use Rattle.bits.proofs.Stores.{sets-before, getD-sets-before}
 

@@ -1,5 +1,5 @@
 -- The words of a table or of coefficients, one at a time: how much of them each word holds, and lists of words that are the words of a function.
--- It rests on the laws of coefficient words (rules, Packed; packed_anf, Room) and of bits and words (bits, Bit and Word). Assumes nothing.
+-- It rests on the laws of coefficient words (laws, Packed; packed_anf, Room) and of bits and words (bits, Bit and Word).
 --   packed-append, packed-take == the coefficients of words with more behind them, and of the first words of more
 --   part-fits, part-word       == the settings of one word are among all, and the word that holds them
 --   full-words, cut-word       == words that hold f at every setting are the words of f; where they leave room, once the stray bits are cut off
@@ -21,7 +21,7 @@ use Rattle.bits.specs.Word.{word}
 use Rattle.bits.proofs.Bit.{bit-above, bit-mod, bit-mod-high}
 use Rattle.bits.proofs.Word.{bit-word-keep, word-keep-lt, word-ext}
 use Rattle.rules.specs.Coefficient.{wordCount, packed, wordOf, words}
-use Rattle.rules.proofs.Packed.{wordCount-small, wordCount-room, packed-at, getD-words, words-of}
+use Rattle.laws.proofs.transform.Packed.{wordCount-small, wordCount-room, packed-at, getD-words, words-of}
 use Rattle.packed_anf.proofs.Room.{Room, room, wordCount-full}
 
 -- words with more behind them, and the first words of more

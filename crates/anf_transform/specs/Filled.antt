@@ -1,5 +1,5 @@
 -- The answer of the transform and of the way back on paper.
---   told l f     == the outcome that the answer f tells, where l is what the call wrote
+--   filledOf out f   == the outcome that the answer f tells, where out is what the lent buffer holds afterwards
 use mathlib.Core.List.{List}
 use Prim.Native.Nat.{ℕ}
 use Rattle.rules.specs.Outcome.{Outcome, gives, refuses, front}
@@ -7,6 +7,6 @@ use Rattle.anf_transform.specs.declared.Filled.{Filled}
 use Rattle.anf_transform.specs.declared.Filled.the-variants.{Entries, Refused}
 
 -- `Entries(k)`: the result is the first k entries of the lent buffer as it is left; `Refused`: the refusal's number and place
-abbrev pub told : List ℕ → Filled → Outcome (List ℕ)
-told out (Entries k) = gives (front k out)
-told out (Refused r) = refuses (r .number) (r .place)
+abbrev pub filledOf : List ℕ → Filled → Outcome (List ℕ)
+filledOf out (Entries k) = gives (front k out)
+filledOf out (Refused r) = refuses (r .number) (r .place)

@@ -1,3 +1,2 @@
 pub mod Filled
-pub mod Flag
-pub mod Change
+pub mod inner

@@ -3,8 +3,8 @@ ghost use mathlib.Core.Bool.{Bool};
 ghost use mathlib.Core.Path.{_≡_};
 ghost use Prim.Native.Nat.{ℕ, _+_, _*_, _^_, _<_, _≤_};
 ghost use lib.ListN.{length};
-ghost use Rattle.anf_transform.specs.Change.{Changed};
-ghost use Rattle.anf_transform.specs.Flag.{pairXor, joined, lowest, Holds};
+ghost use Rattle.anf_transform.specs.inner.Change.{Changed};
+ghost use Rattle.anf_transform.specs.inner.Flag.{pairXor, joined, lowest, Holds};
 
 // Each of the `step` words from `base + step` on takes in the word `step` places before it.
 fn join_halves(words: &mut [u64], base: usize, step: usize)

@@ -2,8 +2,8 @@
 // without it, which the mask picks, are XORed into those with it.
 ghost use mathlib.Core.Path.{_≡_};
 ghost use lib.ListN.{length, getD};
-ghost use Rattle.anf_transform.specs.Change.{Changed};
-ghost use Rattle.anf_transform.specs.Flag.{inWord};
+ghost use Rattle.anf_transform.specs.inner.Change.{Changed};
+ghost use Rattle.anf_transform.specs.inner.Flag.{inWord};
 
 // The XOR over subsets of the coefficients in one word.
 pub fn transform_word(word: u64) -> u64

@@ -1,9 +1,8 @@
 // The binary Möbius transform between a rule table and the coefficients of its algebraic normal form, after `anf_transform.rs`: inside words, then
 // between words. The same XOR over subsets is the way back. It rests on `packed_anf` and on the definitions of `rules`.
 mod between;
-mod inside;
-mod pack;
-pub mod rule;
+pub mod inside;
+pub mod pack;
 
 use rules::FORM_FLAGS;
 use rules::Refusal;
@@ -21,7 +20,7 @@ ghost use Rattle.rules.specs.Calls.{transform, wayBack};
 ghost use Rattle.rules.specs.Coefficient.{coefficient, wordCount, packed, words};
 ghost use Rattle.rules.specs.Outcome.{left, written};
 ghost use Rattle.rules.specs.Table.{entry, settings};
-ghost use Rattle.anf_transform.specs.Filled.{told};
+ghost use Rattle.anf_transform.specs.Filled.{filledOf};
 
 // What a call that fills a lent buffer answers: how many entries it wrote, or its refusal.
 pub enum Filled {
@@ -31,7 +30,7 @@ pub enum Filled {
 
 // The coefficient words of the table's algebraic normal form, at the front of `out`.
 pub fn compute_anf(flags: usize, table: &[u64], out: &mut [u64]) -> Filled
-    ensures answer { λ r. ⌜ told (now (out .exit)) r ≡ transform flags (now (table .entry)) (length (now (out .entry))) ⌝ }
+    ensures answer { λ r. ⌜ filledOf (now (out .exit)) r ≡ transform flags (now (table .entry)) (length (now (out .entry))) ⌝ }
     ensures lent { λ r. ⌜ now (out .exit) ≡ left (now (out .entry)) (transform flags (now (table .entry)) (length (now (out .entry)))) ⌝ }
 {
     if FORM_FLAGS < flags {
@@ -59,7 +58,7 @@ pub fn compute_anf(flags: usize, table: &[u64], out: &mut [u64]) -> Filled
 
 // One entry, 0 or 1, for each setting: the value there of the polynomial with these coefficients, at the front of `out`.
 pub fn compute_table(flags: usize, coefficients: &[u64], out: &mut [u64]) -> Filled
-    ensures answer { λ r. ⌜ told (now (out .exit)) r ≡ wayBack flags (now (coefficients .entry)) (length (now (out .entry))) ⌝ }
+    ensures answer { λ r. ⌜ filledOf (now (out .exit)) r ≡ wayBack flags (now (coefficients .entry)) (length (now (out .entry))) ⌝ }
     ensures lent { λ r. ⌜ now (out .exit) ≡ left (now (out .entry)) (wayBack flags (now (coefficients .entry)) (length (now (out .entry)))) ⌝ }
 {
     if FORM_FLAGS < flags {
@@ -95,7 +94,8 @@ pub fn compute_table(flags: usize, coefficients: &[u64], out: &mut [u64]) -> Fil
 // The XOR over subsets of the coefficients in the words, for all flags.
 fn transform_words(flags: usize, words: &mut [u64])
     requires { ⌜ (flags ≤ 16) × (length (now words) ≡ wordCount flags) ⌝ }
-    ensures { λ _. ⌜ (length (now (words .exit)) ≡ wordCount flags) × ((m : ℕ) → m < 2 ^ flags → packed (now (words .exit)) m ≡ coefficient flags (packed (now (words .entry))) m) ⌝ }
+    ensures { λ _. ⌜ (length (now (words .exit)) ≡ wordCount flags)
+        × ((m : ℕ) → m < 2 ^ flags → packed (now (words .exit)) m ≡ coefficient flags (packed (now (words .entry))) m) ⌝ }
 {
     inside::inside(words);
     if 6 < flags {
@@ -118,7 +118,8 @@ fn transform_table(flags: usize, table: &[u64], out: &mut [u64])
 // The values of the polynomial at all settings, 0 or 1, at the front of `out`: its words come to hold them as bits and then give way to them.
 fn transform_back(flags: usize, coefficients: &[u64], out: &mut [u64])
     requires { ⌜ (flags ≤ 16) × (wordCount flags ≤ length (now coefficients)) × (2 ^ flags ≤ length (now out)) ⌝ }
-    ensures { λ _. ⌜ now (out .exit) ≡ written (now (out .entry)) (map (λ s. digit (coefficient flags (packed (now (coefficients .entry))) s)) (settings flags)) ⌝ }
+    ensures { λ _. ⌜ now (out .exit) ≡ written (now (out .entry))
+        (map (λ s. digit (coefficient flags (packed (now (coefficients .entry))) s)) (settings flags)) ⌝ }
 {
     let count = packed_anf::word_count(flags);
     let words = &mut out[..count];

@@ -5,8 +5,8 @@ use anf_form::Listing;
 use anf_form::RawCost;
 use anf_transform::Filled;
 use compiler::Compilation;
+use evaluation::Evaluation;
 use examiner::Examination;
-use expr::evaluation::Evaluation;
 use expr_cost::Costing;
 ghost use mathlib.Core.Path.{_≡_};
 ghost use lib.ListN.{length};
@@ -97,7 +97,7 @@ pub extern "C" fn bench_costing(flags: usize, bytes: &[u8]) -> u64
 pub extern "C" fn bench_evaluate(flags: usize, bytes: &[u8], setting: usize) -> u64
     ensures { λ r. ⌜ r ≡ number (Calls.evaluate flags (now (bytes .entry)) setting) ⌝ }
 {
-    let answer = expr::evaluation::evaluate(flags, bytes, setting);
+    let answer = evaluation::evaluate(flags, bytes, setting);
     match answer {
         Evaluation::Value(_) => 0,
         Evaluation::Refused(refusal) => refusal.number,

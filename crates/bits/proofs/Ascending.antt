@@ -1,5 +1,5 @@
 -- Laws of ascending lists: a list of numbers that ascends is settled by its members. They rest on the laws of membership (Range) and of
--- rising lists (Rising). Assumes nothing.
+-- rising lists (Rising).
 --   ascending-from, below-upto                     == ranges ascend and are bounded
 --   ascending-tail, ascending-keep, below-keep     == so do tails and choices of what does
 --   after-mem, below-mem, mem-below                == the bounds, at members

@@ -1,5 +1,5 @@
 -- A bounded list, entry by entry: the bound holds of `getD` at every index, past the end too, where the default is below it. It rests on the
--- definition of `Below`. Assumes nothing.
+-- definition of `Below`.
 --   below-getD, getD-below   == from the list's bound to its entries', and back
 use mathlib.Core.List.{List, [], _∷_}
 use Prim.Native.Nat.{ℕ, zero, suc, _<_}

@@ -1,5 +1,6 @@
 -- Laws of a number's bits: what the operations on numbers do to each bit, and numbers that agree bit by bit.
--- It rests on lib.Bits and lib.Pow, the library's laws of digits and powers of two. Assumes nothing.
+-- It rests on lib.Bits and lib.Pow, the library's laws of digits and powers of two.
+--   byte-digit                               == a truth value that the code casts to a number is its digit
 --   digit-le, digit-eqb, digit-is            == a digit is 1 at most; a number below 2 is its own digit; a truth value from its digit
 --   digit-bit, bit-first, bit-suc            == a bit by division: w / 2 ^ i % 2, the lowest bit, and the bits of the half
 --   bit-and, bit-or, bit-xor, bit-not        == the operations work on each bit apart
@@ -15,12 +16,17 @@ use Prim.Native.Nat.{ℕ, zero, suc, _+_, _-_, _*_, _/_, _%_, _^_, _≤_, _<_}
 use native.Mathlib.Nat.{mod-lt, div-eq-of-lt, lt-of-lt-of-le, div-one, zero-lt-suc, add-zero, one-mul, pow-suc}
 use native.Mathlib.Numerals.{one-add}
 use native.Mathlib.Omega.{arith}
+use mir.Val.{boolByte}
 use lib.Dec.{eqb, ltb}
 use lib.Arith.{lt-one}
 use lib.Bits.{bitAnd, bitOr, bitXor, and-shr, or-shr, xor-shr, and-mod, or-mod, xor-mod}
 use lib.Pow.{pow-pos, pow-mono, pow-lt, shr-shr, shl-shr, high, low, mod-pow-add, field, mod-mod-pow}
 use borrow.Author.Tests.{eqb-true, eqb-false, ltb-true, ltb-false}
 use Rattle.bits.specs.Bit.{bit, digit, _⊕_}
+
+pub byte-digit : (b : Bool) → boolByte b ≡ digit b
+byte-digit true = refl
+byte-digit false = refl
 
 pub digit-le : (b : Bool) → digit b ≤ 1
 digit-le true = omega arith

@@ -1,5 +1,5 @@
 -- A table's rule by one computed test: where the test of every cell computes to true, the two values of every cell are equal. It rests on the laws of
--- membership (Range) and of exclusive or (Truth). Assumes nothing.
+-- membership (Range) and of exclusive or (Truth).
 --   agree f g rows cols    == the test: f and g agree in every cell of so many rows and columns
 --   cells-same             == then they agree in each
 use mathlib.Core.Bool.{Bool, true, not}

@@ -1,5 +1,5 @@
 -- The places that a test chooses below k, read back from their number in a wider word. It rests on the laws of words (Word) and of ascending lists
--- (Ascending). Assumes nothing.
+-- (Ascending).
 --   places-chosen    == the places of the number whose places a test chose
 --   places-mod       == the places of the k low digits
 use mathlib.Core.Bool.{Bool}

@@ -1,5 +1,5 @@
 -- A number put together place by place: what one place more adds to the number that a test gives. It rests on the laws of words, of ranges and of
--- sums (Word, Range and Sum), and on lib.Bits. Assumes nothing.
+-- sums (Word, Range and Sum), and on lib.Bits.
 --   word-append      == the places of two lists
 --   word-none        == no place
 --   word-more        == one place more

@@ -1,5 +1,5 @@
 -- Masks with no common member: each is within the other's complement, and taking a common part out of two masks leaves such a pair exactly where
--- that part is all that they share. It rests on the laws of bits and masks (Bit, Mask). Assumes nothing.
+-- that part is all that they share. It rests on the laws of bits and masks (Bit, Mask).
 --   within-not     == a mask is within a complement exactly where it shares no member
 --   and-sub        == what two masks share without a common part c
 --   disjoint-sub   == nothing, exactly where they share c alone

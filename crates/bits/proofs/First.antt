@@ -1,5 +1,5 @@
 -- The first number below a bound that passes a test, as the head of what is kept of a range. It rests on the laws of membership (Range) and of
--- ascending lists (Ascending). Assumes nothing.
+-- ascending lists (Ascending).
 --   keep-empty, empty-keep == nothing is kept exactly where no number below the bound passes
 --   First p k x            == x is the first number below k that passes p
 --   first-same             == there is one at most

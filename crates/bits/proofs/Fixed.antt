@@ -1,5 +1,5 @@
 -- The fixed point along a measure: the rule's value at w is one turn of the rule over its values below w. It rests on the definitions of specs/Fixed:
--- how deep the turns are nested does not matter from the measure on. Assumes nothing.
+-- how deep the turns are nested does not matter from the measure on.
 --   below-less, below-other   == the value asked for at a smaller measure, and elsewhere
 --   below-ext                 == two rules' values that agree below w
 --   fixed-step                == fixed w ≡ step (below fixed w) w

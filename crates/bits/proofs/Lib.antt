@@ -1,3 +1,4 @@
+pub mod AllRows
 pub mod Truth
 pub mod Bit
 pub mod Shift
@@ -6,7 +7,6 @@ pub mod Range
 pub mod Rising
 pub mod Ascending
 pub mod Sum
-pub mod FlagWords
 pub mod Fixed
 pub mod Lowest
 pub mod Word
@@ -23,3 +23,5 @@ pub mod Disjoint
 pub mod Chosen
 pub mod Tabulated
 pub mod Cells
+pub mod Injective
+pub mod Stored

@@ -1,5 +1,5 @@
 -- The lowest set bit of a number that is not 0: its place, which `trailingZeros` counts, and the number without it, which `w & (w - 1)` is.
--- It rests on the laws of bits and masks (Bit, Mask) and on lib.Count. Assumes nothing.
+-- It rests on the laws of bits and masks (Bit, Mask) and on lib.Count.
 --   trailing-lt, bit-trailing, below-trailing  == the place is in the word, the bit there is set, and those below it are not
 --   clear-lowest, bit-clear, clear-lt          == w & (w - 1) is w less that power of two, hence w without that bit, and less than w
 --   clear-above                                == what is left stands above the place

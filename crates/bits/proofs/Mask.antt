@@ -1,5 +1,5 @@
 -- Masks as sets: a number stands for the set of its bits, `within` is inclusion and `ones` the size.
--- It rests on the laws of bits (Bit), of truth values (Truth), and on lib.Bits and lib.Count. Assumes nothing.
+-- It rests on the laws of bits (Bit), of truth values (Truth), and on lib.Bits and lib.Count.
 --   within-bit, bits-within                              == inclusion by members
 --   within-le, within-zero, zero-within                  == a part is no greater; nothing is in all, and only nothing is in nothing
 --   within-refl, within-trans, within-antisym            == an order

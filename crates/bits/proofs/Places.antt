@@ -1,6 +1,6 @@
--- Places under a second number's test, and how many pass a test. It rests on the laws of words and of bits (Word, Bit). Assumes nothing.
+-- Places under a second number's test, and how many pass a test. It rests on the laws of words and of bits (Word, Bit).
 --   places-and, ones-and     == the places of w & v are those of w that pass v's test, and their number
---   places-zero, mem-zero    == no place; place 0
+--   places-zero              == 0 has no place
 --   length-total             == how many pass a test is the total of the test's digits
 use mathlib.Core.Bool.{Bool, true, false, _&&_}
 use mathlib.Core.List.{List, [], _∷_}
@@ -11,14 +11,13 @@ use native.Mathlib.Omega.{arith}
 use lib.Bits.{bitAnd, and-le-l}
 use lib.Count.{ones}
 use lib.ListN.{length}
-use borrow.Author.Tests.{lt-ltb}
 use Rattle.bits.specs.Bit.{bit, digit}
-use Rattle.bits.specs.Range.{upto, keep, mem}
+use Rattle.bits.specs.Range.{upto, keep}
 use Rattle.bits.specs.Sum.{sum, total}
 use Rattle.bits.specs.Word.{places}
 use Rattle.bits.proofs.Bit.{bit-and, bit-zero}
 use Rattle.bits.proofs.Range.{keep-keep, keep-ext, keep-none, mem-all}
-use Rattle.bits.proofs.Word.{ones-places, mem-places}
+use Rattle.bits.proofs.Word.{ones-places}
 
 pub places-and : (k w v : ℕ) → places k (bitAnd w v) ≡ keep (bit v) (places k w)
 unfolding places
@@ -41,6 +40,3 @@ length-total {A} p (x ∷ l) = go (p x) (length-total p l)
 pub places-zero : (k : ℕ) → places k 0 ≡ []
 unfolding places
 places-zero k = keep-none (bit 0) (upto k) (mem-all _ (upto k) (λ i m. rw bit-zero))
-
-pub mem-zero : (k w : ℕ) → 0 < k → mem 0 (places k w) ≡ bit w 0
-mem-zero k w h = mem-places k w 0 ∙ ap (λ (b : Bool). b && bit w 0) (lt-ltb 0 k h)

@@ -1,5 +1,4 @@
 -- Laws of ranges, of the choices from a list, and of membership. They rest on the definitions of specs/Range and the laws of truth values of proofs/Truth.
--- Assumes nothing.
 --   length-from, getD-from, getD-upto           == a range's length and its elements
 --   from-add, from-suc, upto-add, upto-suc      == a range in two parts
 --   from-map                                    == a shifted range

@@ -1,5 +1,5 @@
 -- Words as sets of places: what an operation on words does to the list of a word's places, and tests of words as tests of their places.
--- It rests on the laws of a word's places (Word, Places), of bits and masks (Bit, Mask) and of choices from a list (Range, Ascending). Assumes nothing.
+-- It rests on the laws of a word's places (Word, Places), of bits and masks (Bit, Mask) and of choices from a list (Range, Ascending).
 --   mem-bit                                    == a bit is membership
 --   places-and-not, places-even                == the places of w & !v, and of w without its lowest digit
 --   places-shr                                 == the places of w >> c, where w has none below c

@@ -1,5 +1,4 @@
 -- Shifts as a machine of w bits makes them: what leaves the word is lost. They rest on the laws of bits of proofs/Bit.
--- Assumes nothing.
 --   one-shl                    == a one shifted to place k
 --   bit-shl-in, bit-shl-in-low == the bits of a word shifted to the left, from the shift on and below it
 use mathlib.Core.Bool.{false}

@@ -1,5 +1,4 @@
 -- Runs of stores into a list: one run after another, a run before a run, and a run from the front. They rest on lib.Seq, the library's laws of stores.
--- Assumes nothing.
 --   sets-append          == a run, and another from where it ends
 --   take-sets-front      == the front holds what was stored there
 --   sets-before          == a run before a run

@@ -1,5 +1,5 @@
 -- Laws of sums over a list, for any operation that regroups, commutes and has a unit: numbers under +, truth values under ⊕, masks under bitOr.
--- They rest on the definitions of specs/Sum and the laws of proofs/Truth, proofs/Bit, proofs/Mask and proofs/Range. Assumes nothing.
+-- They rest on the definitions of specs/Sum and the laws of proofs/Truth, proofs/Bit, proofs/Mask and proofs/Range.
 --   Commutes op e                              == op regroups and commutes, and e is its unit
 --   plus-laws, xor-laws, or-laws               == the three operations
 --   sum-map, sum-ext, sum-ext-mem              == a sum's list and its terms, replaced

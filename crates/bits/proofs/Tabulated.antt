@@ -1,4 +1,4 @@
--- Lists with one entry for each number of a range. They rest on the laws of ranges (Range) and on lib.Seq. Assumes nothing.
+-- Lists with one entry for each number of a range. They rest on the laws of ranges (Range) and on lib.Seq.
 --   length-map-upto, getD-map-upto   == its length and its entries
 --   map-upto-of                      == a list with these entries is this list
 --   map-upto-more, map-upto-ext      == one entry more; entries that agree

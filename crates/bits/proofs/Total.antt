@@ -1,5 +1,5 @@
 -- Laws of totals, the sums of numbers: their order, bounds by members, and one more for each element. They rest on the laws of sums and of choices
--- (Sum, Range). Assumes nothing.
+-- (Sum, Range).
 --   total-mono, total-keep-le       == order, and a choice of the elements
 --   total-mul                       == a multiple
 --   total-suc, total-const          == one more for each element; the same for each

@@ -1,4 +1,4 @@
--- Laws of truth values: exclusive or beside `&&`, and what a true conjunction tells. It rests on the two constructors alone. Assumes nothing.
+-- Laws of truth values: exclusive or beside `&&`, and what a true conjunction tells. It rests on the two constructors alone.
 --   xor-assoc, xor-comm, xor-false, xor-self            == ⊕ regroups, commutes, has the unit false, and each value undoes itself
 --   xor-cancel, xor-same                                == a ⊕ (a ⊕ b) is b; a ⊕ b is false only of equals
 --   xor-other, other-xor, xor-minus                     == a ⊕ b is true only of unlike values; a without a part b of it

@@ -1,5 +1,5 @@
 -- The union of a list of masks: its bits, its bound, and the union of the masks that have one bit alone.
--- It rests on the laws of bits, masks and membership (Bit, Mask, Range) and on lib.Bits. Assumes nothing.
+-- It rests on the laws of bits, masks and membership (Bit, Mask, Range) and on lib.Bits.
 --   bit-union          == the bits of a union
 --   union-within, union-mem == it is within m where all its members are; its members are within it
 --   union-lt           == masks of k bits have a union of k bits

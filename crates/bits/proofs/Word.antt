@@ -1,8 +1,9 @@
 -- A number as the set of its places: the places of a number's ones and the number of an ascending list of places undo each other.
--- It rests on the laws of bits, masks and lowest bits (Bit, Mask, Lowest) and of ascending lists (Range, Ascending). Assumes nothing.
+-- It rests on the laws of bits, masks and lowest bits (Bit, Mask, Lowest) and of ascending lists (Range, Ascending).
 --   bit-word, word-lt, ones-word               == the number that has its ones at the places of a list
 --   ascending-places, below-places, mem-places, places-lt == the list of a number's places, and each is below the bound
 --   word-places, places-word, ones-places      == there and back, and the size
+--   places-injective                           == numbers of the same places are equal
 --   bit-word-keep, word-keep-lt, word-ext      == the number whose bits below k a test gives
 --   places-lowest                              == the places, lowest first
 use mathlib.Core.Path.{_≡_, refl, sym, ap, ap₂, _∙_, fun-ext}
@@ -97,6 +98,9 @@ module _ (k w : ℕ) where
 
   pub ones-places : w < 2 ^ k → ones w ≡ length (places k w)
   ones-places h = ap ones (sym (word-places h)) ∙ ones-word (places k w) ascending-places
+
+pub places-injective : (k w v : ℕ) → w < 2 ^ k → v < 2 ^ k → places k w ≡ places k v → w ≡ v
+places-injective k w v a b e = sym (word-places k w a) ∙ ap word e ∙ word-places k v b
 
 pub places-word : (k : ℕ) (l : List ℕ) → Ascending l → Below k l → places k (word l) ≡ l
 unfolding places

@@ -3,3 +3,4 @@ pub mod Range
 pub mod Sum
 pub mod Word
 pub mod Fixed
+pub mod Stored

@@ -1,5 +1,5 @@
 -- A list's front copied to the front of another, one entry after the other. It rests on the laws of stores (bits, Stores) and of parts of a list
--- (lib.Seq). Assumes nothing.
+-- (lib.Seq).
 --   Copied b out after i         == the first i entries of b stand at the front, and the rest is as it was
 --   copied-none, copied-more     == no entry, and one more
 --   copied-length                == the list keeps its length

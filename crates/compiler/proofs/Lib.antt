@@ -1,6 +1,4 @@
-pub mod Choices
-pub mod Remainders
+pub mod Written
+pub mod Instance
 pub mod Copied
-pub mod TableTree
-pub mod Told
-pub mod Demand
+pub mod Injective

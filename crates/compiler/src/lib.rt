@@ -1,21 +1,23 @@
-// The compiler, after `build_anf_expr` of `anf_cleanup.rs`: a rule table's expression, written as postfix records. The cleanup decides and `emit`
-// follows its choices into a buffer of this call, so that the length is known before the first byte is written to the lent one. It rests on
-// `anf_transform`, `anf_cleanup` and `postfix`.
-mod emit;
-
-use form::Form;
+// The compiler, after `build_anf_expr` of `anf_cleanup.rs`: a rule table's expression, written as postfix records. The cleanup decides and `emission`
+// follows its choices into a buffer of this call, so that the length is known before the first byte is written to the lent one. It rests on `table`,
+// `anf_cleanup` and `emission`.
 use postfix::Cursor;
+use rules::BYTE_LIMIT;
 use rules::RULE_FLAGS;
 use rules::Refusal;
 use rules::SHORT_OUTPUT;
 use rules::SHORT_TABLE;
 use rules::TOO_MANY_FLAGS;
+use table::Table;
 ghost use mathlib.Core.Path.{_≡_};
 ghost use Prim.Native.Nat.{_≤_};
 ghost use lib.ListN.{length, take};
 ghost use Rattle.rules.specs.Calls;
+ghost use Rattle.rules.specs.Limits.{ruleFlags};
 ghost use Rattle.rules.specs.Outcome.{left, written};
+ghost use Rattle.table.specs.Truth.{truth};
 ghost use Rattle.compiler.specs.Answer.{compilationOf, bytesOf};
+ghost use Rattle.compiler.specs.Truth.{compileTruth};
 
 // What was written: the counts of bytes and records, the cost, and the cost of the raw form.
 pub struct Expression {
@@ -39,7 +41,8 @@ fn refused(number: u64, place: usize) -> Compilation
 // The expression of the table, at the front of `out`.
 pub fn build_anf_expr(flags: usize, table: &[u64], out: &mut [u8]) -> Compilation
     ensures answer { λ r. ⌜ compilationOf (now (out .exit)) r ≡ Calls.compile flags (now (table .entry)) (length (now (out .entry))) ⌝ }
-    ensures lent { λ r. ⌜ now (out .exit) ≡ left (now (out .entry)) (bytesOf (Calls.compile flags (now (table .entry)) (length (now (out .entry))))) ⌝ }
+    ensures lent { λ r. ⌜ now (out .exit) ≡ left (now (out .entry))
+        (bytesOf (Calls.compile flags (now (table .entry)) (length (now (out .entry))))) ⌝ }
 {
     if RULE_FLAGS < flags {
         return refused(TOO_MANY_FLAGS, 0);
@@ -47,15 +50,20 @@ pub fn build_anf_expr(flags: usize, table: &[u64], out: &mut [u8]) -> Compilatio
     if table.len() < packed_anf::setting_count(flags) {
         return refused(SHORT_TABLE, 0);
     }
-    let families = form::tables::families();
-    let supersets = form::tables::supersets();
-    let bits = anf_transform::rule::table_word(flags, table);
-    let form = Form {
-        word: anf_transform::rule::anf_word(flags, bits),
-    };
+    compile(flags, Table::of_entries(flags, table), out)
+}
+
+// The same for a table by value.
+pub fn compile(flags: usize, table: Table, out: &mut [u8]) -> Compilation
+    requires { ⌜ flags ≤ ruleFlags ⌝ }
+    ensures answer { λ r. ⌜ compilationOf (now (out .exit)) r ≡ compileTruth flags (truth table) (length (now (out .entry))) ⌝ }
+    ensures lent { λ r. ⌜ now (out .exit) ≡ left (now (out .entry)) (bytesOf (compileTruth flags (truth table) (length (now (out .entry))))) ⌝ }
+{
+    let lookup = mask_words::lookup();
+    let form = table.form(flags);
     let raw = form.raw_cost();
-    let plan = anf_cleanup::cleanup(form, raw, &families, &supersets);
-    let mut bytes = [0u8; 963];
+    let plan = anf_cleanup::cleanup(form, raw, &lookup);
+    let mut bytes = [0u8; BYTE_LIMIT];
     let start = Cursor {
         place: 0,
         records: 0,
@@ -63,16 +71,7 @@ pub fn build_anf_expr(flags: usize, table: &[u64], out: &mut [u8]) -> Compilatio
     let choice = plan.choice;
     let inner = plan.inner;
     let rest = plan.rest;
-    let end = emit::emit(
-        form,
-        choice,
-        inner,
-        rest,
-        &families,
-        &supersets,
-        &mut bytes,
-        start,
-    );
+    let end = emission::emit(form, choice, inner, rest, &lookup, &mut bytes, start);
     if out.len() < end.place {
         return refused(SHORT_OUTPUT, end.place);
     }

@@ -1,28 +1,24 @@
 // The console's calls, for C: evaluation and examination, each as two calls with the same arguments, one for the number, 0 for none, and one for the
 // result or the place. A table is bytes here, eight an entry, low byte first; a cut last entry doesn't count. `include/console.h` declares them. It
-// rests on `expr` and `examiner`.
+// rests on `evaluation`, `examiner` and `table`.
+use evaluation::Evaluation;
 use examiner::Examination;
-use expr::evaluation::Evaluation;
 use rules::RULE_FLAGS;
 use rules::Refusal;
 use rules::SHORT_TABLE;
 use rules::TOO_MANY_FLAGS;
+use table::Table;
 ghost use mathlib.Core.Path.{_≡_};
-ghost use Prim.Native.Nat.{_*_, _%_, _≤_, _^_};
-ghost use lib.ListN.{length};
-ghost use Rattle.bits.specs.Range.{keep};
-ghost use Rattle.bits.specs.Word.{word};
 ghost use Rattle.examiner.specs.Answer.{examinationOf};
 ghost use Rattle.rules.specs.Calls;
 ghost use Rattle.rules.specs.Console.{entries, number, result};
-ghost use Rattle.rules.specs.Table.{entry, settings};
 
 // The refusal's number at evaluation, or 0.
 #[no_mangle]
 pub extern "C" fn rule_evaluation_number(flags: usize, bytes: &[u8], setting: usize) -> u64
     ensures { λ r. ⌜ r ≡ number (Calls.evaluate flags (now (bytes .entry)) setting) ⌝ }
 {
-    let answer = expr::evaluation::evaluate(flags, bytes, setting);
+    let answer = evaluation::evaluate(flags, bytes, setting);
     match answer {
         Evaluation::Value(_) => 0,
         Evaluation::Refused(refusal) => refusal.number,
@@ -34,7 +30,7 @@ pub extern "C" fn rule_evaluation_number(flags: usize, bytes: &[u8], setting: us
 pub extern "C" fn rule_evaluation_result(flags: usize, bytes: &[u8], setting: usize) -> u64
     ensures { λ r. ⌜ r ≡ result (Calls.evaluate flags (now (bytes .entry)) setting) ⌝ }
 {
-    let answer = expr::evaluation::evaluate(flags, bytes, setting);
+    let answer = evaluation::evaluate(flags, bytes, setting);
     match answer {
         Evaluation::Value(value) => value,
         Evaluation::Refused(refusal) => refusal.place as u64,
@@ -81,23 +77,5 @@ fn examine(flags: usize, table: &[u8], bytes: &[u8]) -> Examination
             place: 0,
         });
     }
-    examiner::examine_word(flags, table_word(flags, table), bytes)
-}
-
-// The bits of a complete table: bit 0 of an entry is bit 0 of its low byte.
-fn table_word(flags: usize, table: &[u8]) -> u64
-    requires { ⌜ (flags ≤ 6) × (8 * 2 ^ flags ≤ length (now table)) ⌝ }
-    ensures { λ r. ⌜ r ≡ word (keep (entry (entries (now (table .entry)))) (settings flags)) ⌝ }
-{
-    let mut word = 0;
-    for setting in 0..packed_anf::setting_count(flags) {
-        word = word | (low_bit(table[8 * setting]) << setting);
-    }
-    word
-}
-
-fn low_bit(byte: u8) -> u64
-    ensures { λ r. ⌜ r ≡ byte % 2 ⌝ }
-{
-    (byte % 2) as u64
+    examiner::examine_table(flags, Table::of_bytes(flags, table), bytes)
 }

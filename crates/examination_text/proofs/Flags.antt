@@ -1,5 +1,4 @@
 -- The names of the flags that are set, one flag after another. It rests on the definitions of `named` and `flagNames` and on the laws of ranges (bits, Range).
--- Assumes nothing.
 --   flag-none, flag-some     == what is written for a flag that is not set, and for one that is
 --   flag-short               == at most two bytes
 --   named-more               == one flag more
@@ -20,8 +19,8 @@ use Rattle.bits.proofs.Range.{upto-suc, keep-append}
 use Rattle.rules.specs.Ascii.{ascii}
 use Rattle.rules.specs.Text.{decimal}
 use Rattle.text.proofs.Decimal.{length-decimal}
-use Rattle.examination_text.specs.Parts.{flagName}
-use Rattle.examination_text.specs.Words.{named, flagNames}
+use Rattle.examination_text.specs.inner.Parts.{flagName}
+use Rattle.examination_text.specs.Verdict.{named, flagNames}
 
 -- what is written for a flag, by whether it is set
 abbrev turn : ℕ → Bool → List ℕ

@@ -1,5 +1,5 @@
 -- What the examining command is to write, by cases: input that is too long or is not two lines, a first line that is no table, a second that is no rule, and
--- two lines that are. It rests on the definitions of specs/Input and on the parts of the input at newlines (Split). Assumes nothing.
+-- two lines that are. It rests on the definitions of specs/Input and on the parts of the input at newlines (Split).
 --   page-long, page-lines            == input that is too long, and other input
 --   lines-one, lines-more, lines-two == no newline before the end; the second newline is not the end; it is
 --   table-none, table-ragged, table-rule == no flag count, or no digits; a table
@@ -20,11 +20,11 @@ use Rattle.bits.specs.Range.{all}
 use Rattle.rules.specs.Ascii.{ascii}
 use Rattle.rules.specs.Calls.{examine}
 use Rattle.rules.specs.Text.{flagsOf}
-use Rattle.text.specs.Digits.{isDigit, values}
+use Rattle.text.specs.TableDigits.{isDigit, values}
 use Rattle.examination_text.specs.Input.{longest, tooLong, notLines, notTable, notRule, ofRule, ofTable, ofLines, verdictPage}
 use Rattle.examination_text.specs.Notation.{attach, split, recordTexts, isRecord, expression}
-use Rattle.examination_text.specs.Parts.{Part}
-use Rattle.examination_text.specs.Words.{words}
+use Rattle.examination_text.specs.inner.Parts.{Part}
+use Rattle.examination_text.specs.Verdict.{words}
 use Rattle.examination_text.proofs.Split.{split-first, part-last, part-more}
 
 -- ---- the input

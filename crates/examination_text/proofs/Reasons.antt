@@ -1,4 +1,4 @@
--- The reason of a refusal by its row. It rests on the definition of `reason`. Assumes nothing.
+-- The reason of a refusal by its row. It rests on the definition of `reason`.
 --   reason-mark, -payload, -operands, -records, -end, -differs  == rows 6, 7, 8, 9, 10 and 12
 --   reason-costly                                               == no other row: 13
 use mathlib.Core.List.{List, _++_}
@@ -10,7 +10,7 @@ use Rattle.rules.specs.Calls.{tableForm}
 use Rattle.rules.specs.Form.{rawCost}
 use Rattle.rules.specs.Text.{decimal}
 use Rattle.examination_text.specs.Notation.{recordOf}
-use Rattle.examination_text.specs.Words.{difference, aboveRaw, reason}
+use Rattle.examination_text.specs.Verdict.{difference, beyondLimit, aboveRaw, reason}
 
 module _ (n : ℕ) (table : List ℕ) (ts : List (List ℕ)) (k p : ℕ) where
   pub reason-mark : k ≡ 6 → reason n table ts k p ≡ ascii "unknown mark, at record " ++ decimal (recordOf ts p)
@@ -25,7 +25,7 @@ module _ (n : ℕ) (table : List ℕ) (ts : List (List ℕ)) (k p : ℕ) where
   unfolding reason
   reason-operands e = ap (λ (j : ℕ). reason n table ts j p) e
 
-  pub reason-records : k ≡ 9 → reason n table ts k p ≡ ascii "more than 385 records, at record " ++ decimal (recordOf ts p)
+  pub reason-records : k ≡ 9 → reason n table ts k p ≡ beyondLimit (recordOf ts p)
   unfolding reason
   reason-records e = ap (λ (j : ℕ). reason n table ts j p) e
 

@@ -1,4 +1,4 @@
--- Records in the notation, by their length and their bytes. It rests on the definitions of `isRecord` and `recordBytes`. Assumes nothing.
+-- Records in the notation, by their length and their bytes. It rests on the definitions of `isRecord` and `recordBytes`.
 --   record-short, record-long        == a record has two bytes or three
 --   record-first, record-second      == its first two are capital letters
 --   record-two, record-three         == two capital letters are a record, and with a third byte where that is a digit

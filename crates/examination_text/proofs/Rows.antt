@@ -1,6 +1,5 @@
 -- By which rows a rule can be refused for a complete table of up to six flags: 6, 7, 8, 9, 10, 12 and 13, each of which has its reason in words. The places of
 -- the first four lie in the expression, so that each is that of a record. It rests on the definitions of the reader, the machine and the examiner (rules).
--- Assumes nothing.
 --   Row len k p      == k is one of these rows, and p a place of it for an expression of len bytes
 --   ByRow len o      == the outcome o is a result, or a refusal by one of them
 --   examine-rows     == the examination's outcome is so
@@ -19,8 +18,8 @@ use Rattle.rules.specs.Machine.{push, finish, operands, run, made}
 use Rattle.rules.specs.Outcome.{Outcome, gives, refuses, refuse, _then_}
 use Rattle.rules.specs.Record.{Kind, Constant, Flag, marked, plain, loaded, recordAt}
 use Rattle.rules.specs.Tree.{Tree, cost}
-use Rattle.rules.proofs.Checked.{table-complete}
-use Rattle.rules.proofs.Outcome.{pick}
+use Rattle.laws.proofs.calls.Checked.{table-complete}
+use Rattle.laws.proofs.calls.Outcome.{pick}
 
 pub data Row (len : ℕ) : ℕ → ℕ → Type 0 where
   mark : {p : ℕ} → p < len → Row len 6 p

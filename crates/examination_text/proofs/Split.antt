@@ -1,5 +1,5 @@
 -- Bytes taken apart at a byte: the part before the first of them, and the parts behind it. It rests on the definition of `split` and on the laws of tests
--- along a list (text, Digits). Assumes nothing.
+-- along a list (text, TableDigits).
 --   other b x            == x is another byte than b
 --   split-one, split-two == no b in the bytes: one part; a first b: the part before it, and the parts behind
 --   split-first          == there is a first part
@@ -18,9 +18,9 @@ use lib.Seq.{split-at, getD-drop, drop-drop, length-take-le, take-all}
 use borrow.Author.Tests.{eq-eqb, ne-eqb, lt-ltb, le-ltb, not-true}
 use Rattle.bits.specs.Range.{all}
 use Rattle.bits.proofs.Truth.{and-true-l, and-true-r}
-use Rattle.text.proofs.Digits.{all-none, all-more}
+use Rattle.text.proofs.TableDigits.{all-none, all-more}
 use Rattle.examination_text.specs.Notation.{attach, split}
-use Rattle.examination_text.specs.Parts.{others, Part}
+use Rattle.examination_text.specs.inner.Parts.{others, Part}
 
 abbrev pub other : ℕ → ℕ → Bool
 other b x = not (eqb x b)

@@ -11,9 +11,9 @@ use Rattle.bits.specs.Range.{all}
 use Rattle.rules.specs.Ascii.{ascii}
 use Rattle.rules.specs.Calls.{examine}
 use Rattle.rules.specs.Text.{flagsOf}
-use Rattle.text.specs.Digits.{isDigit, values}
+use Rattle.text.specs.TableDigits.{isDigit, values}
 use Rattle.examination_text.specs.Notation.{split, recordTexts, isRecord, expression}
-use Rattle.examination_text.specs.Words.{words}
+use Rattle.examination_text.specs.Verdict.{words}
 
 abbrev pub longest : ℕ
 longest = 4095

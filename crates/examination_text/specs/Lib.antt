@@ -1,4 +1,4 @@
 pub mod Notation
-pub mod Words
+pub mod Verdict
 pub mod Input
-pub mod Parts
+pub mod inner

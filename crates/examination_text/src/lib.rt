@@ -1,7 +1,7 @@
 // The examination of a rule for people: the output of the examining command for its whole input, a line of a table's digits and a line of a rule's records.
 // It says whether the examiner accepts the rule, or in words which row of the refusal table refused it, and where. It rests on `examiner` and on `text`.
 mod notation;
-mod words;
+mod verdict;
 
 use text::Page;
 use text::table::Size;
@@ -15,10 +15,10 @@ ghost use Rattle.rules.specs.Ascii.{ascii};
 ghost use Rattle.rules.specs.Calls.{examine};
 ghost use Rattle.rules.specs.Limits.{ruleFlags};
 ghost use Rattle.rules.specs.Text.{flagsOf};
-ghost use Rattle.text.specs.Digits.{isDigit, values};
+ghost use Rattle.text.specs.TableDigits.{isDigit, values};
 ghost use Rattle.text.specs.Page.{Shows};
 ghost use Rattle.examination_text.specs.Notation.{recordTexts};
-ghost use Rattle.examination_text.specs.Words;
+ghost use Rattle.examination_text.specs.Verdict;
 ghost use Rattle.examination_text.specs.Input.{longest, notLines, notTable, ofRule, ofTable, verdictPage};
 
 // What the input has at most, in bytes.
@@ -27,11 +27,11 @@ const LONGEST: usize = 4095;
 // The page of the verdict on an expression, whose records stand in the line.
 fn verdict_page(flags: usize, table: &[u64], expression: &[u8], line: &[u8]) -> Page
     requires { ⌜ (flags ≤ ruleFlags) × (2 ^ flags ≤ length (now table)) ⌝ }
-    ensures { λ r. ⌜ Shows (Words.words flags (now (table .entry)) (recordTexts (now (line .entry))) (examine flags (now (table .entry)) (now (expression .entry))) ++ ascii "\n") r ⌝ }
+    ensures { λ r. ⌜ Shows (Verdict.words flags (now (table .entry)) (recordTexts (now (line .entry))) (examine flags (now (table .entry)) (now (expression .entry))) ++ ascii "\n") r ⌝ }
 {
     let answer = examiner::examine(flags, table, expression);
     let mut said = [0u8; 200];
-    let end = words::put_verdict(answer, flags, table, line, &mut said);
+    let end = verdict::put_verdict(answer, flags, table, line, &mut said);
     let mut bytes = [0u8; 1400];
     let newline = text::out::put_text(&said[..end], &mut bytes, 0);
     let count = text::out::put_text(b"\n", &mut bytes, newline);

@@ -4,9 +4,9 @@ ghost use mathlib.Core.Path.{_≡_};
 ghost use Prim.Native.Nat.{_≤_};
 ghost use lib.ListN.{length};
 ghost use Rattle.bits.specs.Range.{all};
-ghost use Rattle.text.specs.Put.{Room, Put};
+ghost use Rattle.bits.specs.Stored.{Room, Stored};
 ghost use Rattle.examination_text.specs.Notation.{isCapital, isNumeral, isRecord, recordTexts, recordBytes, expression, recordOf};
-ghost use Rattle.examination_text.specs.Parts.{Part};
+ghost use Rattle.examination_text.specs.inner.Parts.{Part};
 
 // The first place, from a place on, at which the byte stands, or the end.
 pub fn until(byte: u8, bytes: &[u8], from: usize) -> usize
@@ -61,7 +61,7 @@ fn is_record(text: &[u8]) -> bool
 // A record's bytes.
 fn put_record(text: &[u8], out: &mut [u8], at: usize) -> usize
     requires { ⌜ (isRecord (now text) ≡ true) × Room (recordBytes (now text)) at (now out) ⌝ }
-    ensures { λ r. ⌜ Put (recordBytes (now (text .entry))) at r (now (out .entry)) (now (out .exit)) ⌝ }
+    ensures { λ r. ⌜ Stored (recordBytes (now (text .entry))) at r (now (out .entry)) (now (out .exit)) ⌝ }
 {
     let end = text::out::put_text(&text[..2], out, at);
     if text.len() == 2 {
@@ -93,7 +93,7 @@ pub fn is_rule(line: &[u8]) -> bool
 // The expression's bytes, at the front of the buffer.
 pub fn put_rule(line: &[u8], out: &mut [u8]) -> usize
     requires { ⌜ (all isRecord (recordTexts (now line)) ≡ true) × (length (now line) ≤ length (now out)) ⌝ }
-    ensures { λ r. ⌜ Put (expression (recordTexts (now (line .entry)))) 0 r (now (out .entry)) (now (out .exit)) ⌝ }
+    ensures { λ r. ⌜ Stored (expression (recordTexts (now (line .entry)))) 0 r (now (out .entry)) (now (out .exit)) ⌝ }
 {
     if line.len() == 0 {
         return 0;

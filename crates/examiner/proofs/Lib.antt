@@ -1,4 +1,3 @@
-pub mod InLanes
 pub mod Settings
 pub mod Examined
-pub mod Verdict
+pub mod Injective

@@ -1,27 +1,27 @@
--- With the words of the six flags the lanes are the settings themselves. It rests on those words (bits, FlagWords) and on the laws of lanes (InLanes).
--- Assumes nothing.
+-- With the words of the six flags the lanes are the settings themselves. It rests on those words (mask_words, Entries) and on the laws of lanes
+-- (lanes, InLanes).
 --   lane-setting         == lane j is setting j
 --   bit-values           == so a tree's lanes are its values
+use mathlib.Core.List.{List, map}
 use mathlib.Core.Path.{_≡_, ap, _∙_}
 use Prim.Native.Nat.{ℕ, _^_, _≤_, _<_}
 use native.Mathlib.Nat.{lt-of-lt-of-le}
 use lib.Pow.{pow-mono}
 use Rattle.bits.specs.Bit.{bit}
-use Rattle.bits.proofs.Bit.{bit-ext}
-use Rattle.bits.proofs.FlagWords.{flagWords, flagWord, bit-flagWord}
+use Rattle.bits.specs.Range.{upto}
+use Rattle.rules.specs.Limits.{ruleFlags}
 use Rattle.rules.specs.Tree.{Tree, value}
-use Rattle.examiner.specs.Lanes.{lane, lanes}
-use Rattle.examiner.proofs.InLanes.{bit-lane, lane-lt, bit-lanes}
+use Rattle.mask_words.specs.Lookup.{flagWord}
+use Rattle.mask_words.proofs.Entries.{bit-flag}
+use Rattle.lanes.specs.Lanes.{lane, lanes}
+use Rattle.lanes.proofs.InLanes.{lane-is, bit-lanes}
 
-module _ (n j : ℕ) (few : n ≤ 6) (h : j < 2 ^ n) where
-  inside : j < 64
+module _ (ws : List ℕ) (e : ws ≡ map flagWord (upto ruleFlags)) (n j : ℕ) (few : n ≤ ruleFlags) (h : j < 2 ^ n) where
+  inside : j < 2 ^ ruleFlags
   inside = lt-of-lt-of-le h (pow-mono few)
 
-  pub lane-setting : lane n flagWords j ≡ j
-  unfolding flagWord
-  lane-setting =
-      bit-ext n (lane n flagWords j) j (lane-lt n flagWords j) h
-      (λ i l. bit-lane n flagWords i j l ∙ bit-flagWord i j (lt-of-lt-of-le l few) inside)
+  pub lane-setting : lane n ws j ≡ j
+  lane-setting = lane-is n ws j j h (λ i l. bit-flag ws e i (lt-of-lt-of-le l few) j inside)
 
-  pub bit-values : (t : Tree) → bit (lanes n flagWords t) j ≡ value t j
-  bit-values t = bit-lanes n flagWords t j inside ∙ ap (value t) lane-setting
+  pub bit-values : (t : Tree) → bit (lanes n ws t) j ≡ value t j
+  bit-values t = bit-lanes n ws t j inside ∙ ap (value t) lane-setting

@@ -1,3 +1,3 @@
-pub mod Lanes
-pub mod Examined
+pub mod Inner
 pub mod Answer
+pub mod Examined

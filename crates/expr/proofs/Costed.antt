@@ -1,6 +1,6 @@
 -- Laws of a walk that also counts what the OR discount saves, with a second array that says which trees on the stack are ORs: then the cost of the
 -- expression is the number of its records less what was saved. They hold whatever `e` the walk keeps of a tree besides, and rest on the laws of Walk
--- and Stack and on rules' Saved. Assumes nothing.
+-- and Stack and of Saved.
 --   saved-push                            == a record saves one where it is an OR and its first operand is an OR
 --   Costed e n s entries count place depth a ors less
 --                                         == a walk, where ors says which trees are ORs and less is what they save; both arrays have
@@ -26,11 +26,11 @@ use Rattle.rules.specs.Machine.{made}
 use Rattle.rules.specs.Outcome.{Outcome, gives, refuse, _then_}
 use Rattle.rules.specs.Record.{Kind, Constant, Flag, And, Or, Xor, Not, Found}
 use Rattle.rules.specs.Tree.{Tree, cost, size}
-use Rattle.rules.proofs.Saved.{isOr, saved, cost-saved}
+use Rattle.expr.proofs.Saved.{isOr, saved, cost-saved}
 use Rattle.expr.specs.Answers.{arityOf, orOf, ended}
 use Rattle.expr.proofs.Reader.{Read}
 use Rattle.expr.proofs.Stack.{node, operand, Image, total-two, total-one, total-single, image-empty}
-use Rattle.expr.proofs.Values.{byte-digit}
+use Rattle.bits.proofs.Bit.{byte-digit}
 use Rattle.expr.proofs.Walk.{Walk, Folds, walk-start, walk-step, walk-stack, walk-image, walk-end, tree, grown}
 
 -- ---- one record
@@ -55,7 +55,8 @@ saved-push Not ts base b h is = omega (arith, total-one saved ts base h)
 
 -- ---- the walk
 
-pub record Costed {A : Type 0} (e : Tree → A) (n : ℕ) (s : List ℕ) (entries count place depth : ℕ) (a : List A) (ors : List Bool) (less : ℕ) : Type 0 where
+pub record Costed {A : Type 0} (e : Tree → A) (n : ℕ) (s : List ℕ) (entries count place depth : ℕ) (a : List A) (ors : List Bool) (less : ℕ)
+    : Type 0 where
   pub walk : Walk n s count place depth
   pub image : Image e (walk .stack) a
   pub kinds : Image isOr (walk .stack) ors

@@ -3,6 +3,6 @@ pub mod Marks
 pub mod Stack
 pub mod Walk
 pub mod Turn
-pub mod Values
 pub mod Costed
-pub mod Packed
+pub mod Saved
+pub mod Injective

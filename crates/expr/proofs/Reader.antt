@@ -1,7 +1,7 @@
 -- Laws of the reader's answers on paper: what a record that it finds is good for, and what each of its three answers says of the bytes. They
--- rest on rules' RecordAt and on `read` of its Calls. Assumes nothing.
+-- rest on laws' RecordAt and on `stepAt` of the definitions.
 --   Read n s p r                         == the record r stands at place p, with the facts that every walk needs of it
---   read-found, read-end, read-refused   == what the reader's three answers say
+--   step-found, step-end, step-refused   == what the reader's three answers say
 --   read-index                           == a found flag's index is below any bound on the flag count
 --   only-end                             == the code's answer is the end where it is neither a record nor a refusal
 use mathlib.Core.Bool.{Bool, true, false}
@@ -14,12 +14,11 @@ use native.Mathlib.Omega.{arith}
 use lib.Dec.{ltb}
 use lib.ListN.{length}
 use denote.Enum.Declared.{tagOf}
-use borrow.Author.Tests.{ltb-true, ltb-false, le-ltb}
-use Rattle.rules.specs.Calls.{read}
-use Rattle.rules.specs.Limits.{ruleFlags, tooManyFlags}
-use Rattle.rules.specs.Outcome.{Outcome, gives, refuses, refuse, _then_}
+use borrow.Author.Tests.{ltb-true, ltb-false}
+use Rattle.rules.specs.Outcome.{Outcome, gives, refuses, _then_}
 use Rattle.rules.specs.Record.{Kind, Constant, Flag, And, Or, Xor, Not, FlagBelow, Found, recordAt}
-use Rattle.rules.proofs.RecordAt.{record-read}
+use Rattle.laws.proofs.reading.RecordAt.{record-read}
+use Rattle.expr.specs.Answers.{stepAt}
 use Rattle.expr.specs.declared.Reading.{Reading}
 use Rattle.expr.proofs.Reading.{the-type}
 
@@ -64,43 +63,39 @@ then-refused (gives a) k q e = cc
 then-refused (refuses a b) k q e = cc
 
 module _ (n : ℕ) (s : List ℕ) (p : ℕ) where
-  -- the reader's answer by the two tests that come before the record
-  answer : Bool → Bool → Outcome (Option Found)
-  answer over inside =
-      refuse over tooManyFlags 0
-      (elim inside [ true ↦ recordAt n s p then (λ r. gives (some r)) | false ↦ gives none ])
+  -- the answer by the test for bytes that are left
+  answer : Bool → Outcome (Option Found)
+  answer inside = elim inside [ true ↦ recordAt n s p then (λ r. gives (some r)) | false ↦ gives none ]
 
-  pub read-found : (r : Found) → read n s p ≡ gives (some r) → Read n s p r
-  unfolding read answer
-  read-found r e = go (ltb ruleFlags n) (ltb p (length s)) e
+  pub step-found : (r : Found) → stepAt n s p ≡ gives (some r) → Read n s p r
+  unfolding stepAt answer
+  step-found r e = go (ltb p (length s)) e
     where
-      go : (a b : Bool) → answer a b ≡ gives (some r) → Read n s p r
-      go true b h = clash (cc)
-      go false true h = found-read n s p r (then-found (recordAt n s p) r h)
-      go false false h = clash (cc)
+      go : (b : Bool) → answer b ≡ gives (some r) → Read n s p r
+      go true h = found-read n s p r (then-found (recordAt n s p) r h)
+      go false h = clash (cc)
 
-  pub read-end : read n s p ≡ gives none → length s ≤ p
-  unfolding read answer
-  read-end e = go (ltb ruleFlags n) (ltb p (length s)) refl e
+  pub step-end : stepAt n s p ≡ gives none → length s ≤ p
+  unfolding stepAt answer
+  step-end e = go (ltb p (length s)) refl e
     where
-      go : (a b : Bool) → ltb p (length s) ≡ b → answer a b ≡ gives none → length s ≤ p
-      go true b q h = clash (cc)
-      go false true q h = absurd (then-none (recordAt n s p) h)
-      go false false q h = ltb-false p (length s) q
+      go : (b : Bool) → ltb p (length s) ≡ b → answer b ≡ gives none → length s ≤ p
+      go true q h = absurd (then-none (recordAt n s p) h)
+      go false q h = ltb-false p (length s) q
 
-  pub read-refused : (k q : ℕ) → n ≤ ruleFlags → read n s p ≡ refuses k q → (p < length s) × (recordAt n s p ≡ refuses k q)
-  unfolding read answer
-  read-refused k q l e = go (ltb ruleFlags n) (ltb p (length s)) (le-ltb ruleFlags n l) refl e
+  pub step-refused : (k q : ℕ) → stepAt n s p ≡ refuses k q → (p < length s) × (recordAt n s p ≡ refuses k q)
+  unfolding stepAt answer
+  step-refused k q e = go (ltb p (length s)) refl e
     where
-      go : (a b : Bool) → a ≡ false → ltb p (length s) ≡ b → answer a b ≡ refuses k q → (p < length s) × (recordAt n s p ≡ refuses k q)
-      go true b f i h = clash (cc)
-      go false true f i h = (ltb-true p (length s) i, then-refused (recordAt n s p) k q h)
-      go false false f i h = clash (cc)
+      go : (b : Bool) → ltb p (length s) ≡ b → answer b ≡ refuses k q → (p < length s) × (recordAt n s p ≡ refuses k q)
+      go true i h = (ltb-true p (length s) i, then-refused (recordAt n s p) k q h)
+      go false i h = clash (cc)
 
 -- ---- the code's answer
 
 -- where a first `else` says that nothing was found, and a second that nothing was refused
-pub only-end : (r : Reading) → (tagOf the-type r ≡ 1) ⊎ (tagOf the-type r ≡ 2) → (tagOf the-type r ≡ 0) ⊎ (tagOf the-type r ≡ 1) → r ≡ Reading.End
+pub only-end : (r : Reading) → (tagOf the-type r ≡ 1) ⊎ (tagOf the-type r ≡ 2) → (tagOf the-type r ≡ 0) ⊎ (tagOf the-type r ≡ 1)
+    → r ≡ Reading.End
 only-end (Reading.Found node) p q = absurd (⊎-elim (λ e. omega arith) (λ e. omega arith) p)
 only-end Reading.End p q = refl
 only-end (Reading.Refused refusal) p q = absurd (⊎-elim (λ e. omega arith) (λ e. omega arith) q)

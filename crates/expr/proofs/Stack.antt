@@ -1,5 +1,5 @@
 -- Laws of the machine's stack of trees: what a record does to it, and an array that holds the images of its trees, bottom first. It rests on
--- `push` of rules' Machine alone. Assumes nothing.
+-- `push` of rules' Machine alone.
 --   node k x y               == the tree of a record of kind k over the operands x and y, of which it takes as many as the kind has
 --   operand ts i             == the stack's tree at place i, counted from the bottom
 --   Image e ts a             == the array a holds e of the stack's trees, bottom first; above them it holds anything

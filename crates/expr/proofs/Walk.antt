@@ -1,8 +1,7 @@
 -- Laws of a walk over an expression's records: what a loop knows when it has read some records from the front, how one more record changes
 -- that, and what each way to leave the loop says of `made`, the expression's tree or its refusal. They hold for every walk, whatever its stack
--- holds: `e` is what the walk keeps of a tree. They rest on the machine's turns (rules, Run) and on the laws of Stack and Reader. Assumes nothing.
+-- holds. They rest on the machine's turns (laws, Run) and on the laws of Stack and Reader.
 --   Walk n s count place depth           == count records are read, up to place, and the machine's stack is depth deep there
---   Walked e n s count place depth a     == so, and the array a holds e of the stack's trees
 --   Folds e f                            == f k gives e of a record's tree from e of its operands, of those that the kind k has
 --   tree w i, grown w k base             == the stack's tree at place i; the tree of a record of kind k over the operands from place base on
 --   walk-start, walk-step                == before the first record; one record more
@@ -11,26 +10,23 @@
 --   walk-image                           == one store keeps an array up with a record
 --   walk-few, walk-refused, walk-many    == too few operands, a refusal of the reader, and a record too many refuse the expression
 --   walk-end                             == at the end of the bytes one operand must be left
---   walked-start, walked-step, walked-at, walked-end    == the same with the array, for a walk with one stack
-use mathlib.Core.Bool.{Bool, true, false, not}
 use mathlib.Core.List.{List, [], _∷_}
-use mathlib.Core.Path.{_≡_, refl, sym, ap, _∙_}
+use mathlib.Core.Path.{_≡_, refl, ap, _∙_}
 use Prim.Native.Nat.{ℕ, suc, _+_, _-_, _≤_, _<_}
 use native.Mathlib.Omega.{arith}
-use lib.Dec.{eqb, lit≤}
-use lib.ListN.{length, getD, drop, set, length-drop}
-use borrow.Author.Tests.{ne-eqb, eqb-true}
+use lib.Dec.{lit≤}
+use lib.ListN.{length, drop, set, length-drop}
+use borrow.Author.Tests.{ne-eqb}
 use Rattle.bits.specs.Sum.{sum, total}
-use Rattle.rules.specs.Calls.{read}
-use Rattle.rules.specs.Limits.{ruleFlags, recordLimit, fewOperands, manyRecords, badEnd}
+use Rattle.rules.specs.Limits.{recordLimit, fewOperands, manyRecords}
 use Rattle.rules.specs.Machine.{finish, run, made}
-use Rattle.rules.specs.Outcome.{Outcome, gives, refuses, refuse, _then_}
+use Rattle.rules.specs.Outcome.{gives, refuses}
 use Rattle.rules.specs.Record.{Kind, Found}
 use Rattle.rules.specs.Tree.{Tree, size}
-use Rattle.rules.proofs.Run.{run-end, run-full, run-bad, run-few, run-read}
-use Rattle.expr.specs.Answers.{arityOf, ended}
-use Rattle.expr.proofs.Reader.{Read, read-refused}
-use Rattle.expr.proofs.Stack.{node, operand, Image, push-enough, push-few, size-push, image-empty, image-push}
+use Rattle.laws.proofs.reading.Run.{run-end, run-full, run-bad, run-few, run-read}
+use Rattle.expr.specs.Answers.{arityOf, stepAt, ended}
+use Rattle.expr.proofs.Reader.{Read, step-refused}
+use Rattle.expr.proofs.Stack.{node, operand, Image, push-enough, push-few, size-push, image-push}
 
 pub record Walk (n : ℕ) (s : List ℕ) (count place depth : ℕ) : Type 0 where
   pub stack : List Tree
@@ -66,9 +62,9 @@ module _ {n : ℕ} {s : List ℕ} {count place depth : ℕ} (w : Walk n s count 
       let e : recordLimit - count ≡ suc (recordLimit - (count + 1)) = omega arith in
       w .runs ∙ ap (λ (k : ℕ). run k n s place (w .stack)) e
 
-  pub walk-refused : {k q : ℕ} → n ≤ ruleFlags → count < recordLimit → read n s place ≡ refuses k q → made n s ≡ refuses k q
-  walk-refused {k} {q} h l e =
-      let f = read-refused n s place k q h e in
+  pub walk-refused : {k q : ℕ} → count < recordLimit → stepAt n s place ≡ refuses k q → made n s ≡ refuses k q
+  walk-refused {k} {q} l e =
+      let f = step-refused n s place k q e in
       turn l ∙ run-bad n s place (w .stack) (f .0) (recordLimit - (count + 1)) k q (f .1)
 
   pub walk-many : recordLimit ≤ count → place < length s → made n s ≡ refuses manyRecords place
@@ -93,7 +89,8 @@ module _ {n : ℕ} {s : List ℕ} {count place depth : ℕ} (w : Walk n s count 
           let q : base + arityOf (r .kind) ≡ length (w .stack) = omega arith in
           record {
             stack = grown (r .kind) base ∷ drop (arityOf (r .kind)) (w .stack);
-            runs = turn l ∙ run-read n s place (w .stack) (omega arith) (recordLimit - (count + 1)) r _ (f .stands) (push-enough (r .kind) (w .stack) base q);
+            runs = turn l
+                ∙ run-read n s place (w .stack) (omega arith) (recordLimit - (count + 1)) r _ (f .stands) (push-enough (r .kind) (w .stack) base q);
             deep = omega (arith, length-drop (arityOf (r .kind)) (w .stack));
             high = omega arith;
             sizes = size-push (r .kind) (w .stack) base q ∙ ap (λ (k : ℕ). k + 1) (w .sizes);
@@ -113,43 +110,7 @@ module _ {n : ℕ} {s : List ℕ} {count place depth : ℕ} (w : Walk n s count 
       walk-image e a v room is old =
           image-push e (grown (r .kind) base) (w .stack) (arityOf (r .kind)) base a v (omega arith) room is old
 
--- ---- the walk with an array
-
-pub record Walked {A : Type 0} (e : Tree → A) (n : ℕ) (s : List ℕ) (count place depth : ℕ) (a : List A) : Type 0 where
-  pub walk : Walk n s count place depth
-  pub image : Image e (walk .stack) a
+-- ---- what a walk keeps of a tree
 
 abbrev pub Folds : {A : Type 0} → (Tree → A) → (Kind → A → A → A) → Type 0
 Folds {A} e f = (k : Kind) (x y : Tree) (a b : A) → (1 ≤ arityOf k → a ≡ e x) → (2 ≤ arityOf k → b ≡ e y) → f k a b ≡ e (node k x y)
-
-pub walked-start : {A : Type 0} (e : Tree → A) (n : ℕ) (s : List ℕ) (a : List A) → Walked e n s 0 0 0 a
-unfolding walk-start
-walked-start e n s a = record { walk = walk-start n s; image = image-empty e a }
-
-module _ {A : Type 0} {e : Tree → A} {n : ℕ} {s : List ℕ} {count place depth : ℕ} {a : List A} (w : Walked e n s count place depth a) (d : A) where
-  pub walked-at : (i : ℕ) → i < depth → getD a i d ≡ e (tree (w .walk) i)
-  walked-at i h = w .image d i (omega (arith, w .walk .deep))
-
-  pub walked-step : {f : Kind → A → A → A} → Folds e f → {r : Found} → Read n s place r → count < recordLimit
-      → (base : ℕ) → base + arityOf (r .kind) ≡ depth → base < length a
-      → (v : A) → v ≡ f (r .kind) (getD a base d) (getD a (base + 1) d)
-      → Walked e n s (count + 1) (r .next) (base + 1) (set a base v)
-  walked-step {f} law {r} found l base h room v is =
-      record {
-        walk = walk-step (w .walk) found l base h;
-        image = walk-image (w .walk) found l base h e a v room
-            (is ∙ law (r .kind) (tree (w .walk) base) (tree (w .walk) (base + 1)) (getD a base d) (getD a (base + 1) d)
-            (λ q. walked-at base (omega arith)) (λ q. walked-at (base + 1) (omega arith)))
-            (w .image);
-      }
-
-  pub walked-end : length s ≤ place → {B : Type 0} (g : A → Outcome B)
-      → made n s then (λ t. g (e t)) ≡ ended depth (length s) (g (getD a 0 d))
-  walked-end h {B} g = ap (λ (o : Outcome Tree). o then (λ t. g (e t))) (walk-end (w .walk) h) ∙ go (eqb depth 1) refl
-    where
-      go : (b : Bool) → eqb depth 1 ≡ b
-          → refuse (not b) badEnd (length s) (gives (tree (w .walk) 0)) then (λ t. g (e t)) ≡ refuse (not b) badEnd (length s) (g (getD a 0 d))
-      go true q =
-          let one : depth ≡ 1 = eqb-true depth 1 q in
-          ap g (sym (walked-at 0 (omega arith)))
-      go false q = refl

@@ -3,6 +3,7 @@
 --   readingOf r      == the reader's answer: a record with the next place, the end, or a refusal
 --   arityOf k        == how many operands a record of the kind has
 --   orOf k           == a record of the kind is an OR
+--   stepAt n s p     == the reader's answer at place p once row 1 is passed: the record there, or none where no byte is left
 --   constantAt s p   == the reader's answer at a record of the mark CO
 --   flagAt n s p     == the reader's answer at a record of the mark VA
 --   ended d len o    == the answer o at the end of len bytes, where d operands are left
@@ -11,7 +12,7 @@ use mathlib.Core.List.{List}
 use mathlib.Core.Option.{Option, none, some}
 use Prim.Native.Nat.{ℕ, _+_}
 use lib.Dec.{eqb, leb, ltb}
-use lib.ListN.{getD}
+use lib.ListN.{length, getD}
 use Rattle.rules.specs.Limits.{badEnd}
 use Rattle.rules.specs.Outcome.{Outcome, gives, refuses, refuse, _then_}
 use Rattle.rules.specs.Record as paper
@@ -21,7 +22,7 @@ use Rattle.expr.specs.declared.Reading.{Reading}
 use Rattle.expr.specs.declared.Reading.the-variants.{Found, End, Refused}
 
 abbrev pub kindOf : Kind → paper.Kind
-kindOf (Constant b) = paper.Constant (eqb b 1)
+kindOf (Constant b) = paper.Constant b
 kindOf (Variable i) = paper.Flag i
 kindOf And = paper.And
 kindOf Or = paper.Or
@@ -50,6 +51,10 @@ orOf paper.And = false
 orOf paper.Or = true
 orOf paper.Xor = false
 orOf paper.Not = false
+
+-- "answers one record: its kind with payload and the next place, or a refusal"; "if no byte is left at that place, it answers the end"
+unfoldable pub stepAt : ℕ → List ℕ → ℕ → Outcome (Option paper.Found)
+stepAt n s p = elim (ltb p (length s)) [ true ↦ paper.recordAt n s p then (λ r. gives (some r)) | false ↦ gives none ]
 
 -- "`CO`, then one byte, 0 or 1"
 unfoldable pub constantAt : List ℕ → ℕ → Outcome (Option paper.Found)

@@ -1,22 +1,20 @@
-// Records of an expression's bytes, after `expr.rs`: the reader answers one record at a place, and evaluation walks them all over a stack. It rests
-// on the definitions of `rules`.
+// Records of an expression's bytes, after `expr.rs`: the reader answers one record at a place, and `step` is the same for a walk over all of them. It
+// rests on the definitions of `rules`.
 use rules::BAD_MARK;
 use rules::BAD_PAYLOAD;
 use rules::RULE_FLAGS;
 use rules::Refusal;
 use rules::TOO_MANY_FLAGS;
-
-pub mod evaluation;
-
 ghost use mathlib.Core.Path.{_≡_};
 ghost use Prim.Native.Nat.{_+_, _*_, _^_, _≤_, _<_};
 ghost use lib.ListN.{length};
 ghost use Rattle.rules.specs.Calls;
-ghost use Rattle.expr.specs.Answers.{readingOf, arityOf, orOf, kindOf, constantAt, flagAt};
+ghost use Rattle.rules.specs.Limits.{ruleFlags};
+ghost use Rattle.expr.specs.Answers.{readingOf, arityOf, orOf, kindOf, stepAt, constantAt, flagAt};
 
 // What a record is, with its payload.
 pub enum Kind {
-    Constant(u8),
+    Constant(bool),
     Variable(u8),
     And,
     Or,
@@ -72,6 +70,14 @@ pub fn read(flags: usize, bytes: &[u8], place: usize) -> Reading
     if RULE_FLAGS < flags {
         return refused(TOO_MANY_FLAGS, 0);
     }
+    step(flags, bytes, place)
+}
+
+// The same for a walk over the records, whose call has passed row 1.
+pub fn step(flags: usize, bytes: &[u8], place: usize) -> Reading
+    requires { ⌜ flags ≤ ruleFlags ⌝ }
+    ensures { λ r. ⌜ readingOf r ≡ stepAt flags (now (bytes .entry)) place ⌝ }
+{
     if bytes.len() <= place {
         return Reading::End;
     }
@@ -126,7 +132,7 @@ fn constant(bytes: &[u8], place: usize) -> Reading
     let payload = bytes[place + 2];
     match payload {
         0..=1 => Reading::Found(Node {
-            kind: Kind::Constant(payload),
+            kind: Kind::Constant(payload == 1),
             next: place + 3,
         }),
         _ => refused(BAD_PAYLOAD, place),

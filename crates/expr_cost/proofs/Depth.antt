@@ -1,5 +1,6 @@
 -- Laws of a record's depth: the stack of depths follows the machine's stack of trees, and since a tree is no deeper than its records are many, every
--- depth fits. They rest on `depth` of rules' Tree and on the laws of expr's Costed. Assumes nothing.
+-- depth fits. They rest on the definitions of rules' Tree and on the laws of expr's Costed.
+--   depth-size         == a tree is no deeper than it has records
 --   deepened k x y     == the depth of a record of kind k, from its operands' depths
 --   deepest-two        == with two operands or more
 --   depth-folds        == a record's depth comes from its operands' depths
@@ -8,18 +9,27 @@ use mathlib.Core.Bool.{Bool}
 use mathlib.Core.List.{List}
 use mathlib.Core.Path.{_≡_, refl, ap}
 use Prim.Native.Nat.{ℕ, zero, suc, _+_, _≤_, _<_, max}
+use native.Mathlib.Nat.{le-refl}
 use native.Mathlib.Omega.{arith}
 use lib.Dec.{lit≤}
 use lib.ListN.{getD}
 use Rattle.rules.specs.Limits.{recordLimit}
 use Rattle.rules.specs.Record.{Kind, Constant, Flag, And, Or, Xor, Not, Found}
-use Rattle.rules.specs.Tree.{depth}
-use Rattle.rules.proofs.Depth.{depth-size}
+use Rattle.rules.specs.Tree.{Tree, CO, VA, AN, OR, XO, NO, size, depth}
 use Rattle.expr.specs.Answers.{arityOf}
 use Rattle.expr.proofs.Reader.{Read}
 use Rattle.expr.proofs.Walk.{Folds, grown, walk-size}
 use Rattle.expr.proofs.Costed.{Costed, costed-fold}
 use Rattle.expr_cost.specs.Answers.{deepest}
+
+depth-size : (t : Tree) → depth t ≤ size t
+unfolding depth size
+depth-size (CO b) = le-refl 1
+depth-size (VA i) = le-refl 1
+depth-size (AN x y) = omega (arith, depth-size x, depth-size y)
+depth-size (OR x y) = omega (arith, depth-size x, depth-size y)
+depth-size (XO x y) = omega (arith, depth-size x, depth-size y)
+depth-size (NO x) = omega (arith, depth-size x)
 
 pub deepest-two : (k x y : ℕ) → (k ≡ 0 → ⊥) → (k ≡ 1 → ⊥) → deepest k x y ≡ max x y + 1
 deepest-two zero x y h g = absurd (h refl)

@@ -1,3 +1,4 @@
 pub mod TreeCosts
 pub mod Compared
 pub mod Depth
+pub mod Injective

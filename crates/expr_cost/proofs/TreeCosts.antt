@@ -1,5 +1,5 @@
 -- Laws of costing on paper: what it answers by the flag count and by the expression's tree, and what its answer says of the tree. They rest on
--- `costing` and `parse` of rules' Calls and on the laws of expr's Costed. Assumes nothing.
+-- `costing` and `parse` of rules' Calls and on the laws of expr's Costed.
 --   costs t                            == a tree's cost, size and depth
 --   costing-over, costing-within       == with too many flags; else by the machine
 --   costing-refused                    == a refusal of the machine is costing's

@@ -8,7 +8,6 @@ use rules::RECORD_LIMIT;
 use rules::RULE_FLAGS;
 use rules::Refusal;
 use rules::TOO_MANY_FLAGS;
-ghost use mathlib.Core.List.{[]};
 ghost use mathlib.Core.Path.{_≡_};
 ghost use Prim.Native.Nat.{_-_, _^_, _≤_, _<_, max};
 ghost use Rattle.rules.specs.Calls;
@@ -16,6 +15,7 @@ ghost use Rattle.rules.specs.Limits.{ruleFlags};
 ghost use Rattle.rules.specs.Outcome.{gives};
 ghost use Rattle.expr.specs.Answers.{ended};
 ghost use Rattle.expr_cost.specs.Answers.{costsOf, costingOf, deepest, better};
+ghost use Rattle.expr_cost.specs.Part.{emptyPart, cheaperPart};
 
 pub struct Costs {
     pub cost: usize,
@@ -49,14 +49,14 @@ fn walk(flags: usize, bytes: &[u8]) -> Costing
     requires { ⌜ flags ≤ ruleFlags ⌝ }
     ensures { λ r. ⌜ costingOf r ≡ Calls.costing flags (now (bytes .entry)) ⌝ }
 {
-    let mut stack = [0u16; 386];
-    let mut ors = [false; 386];
+    let mut stack = [0u16; RECORD_LIMIT + 1];
+    let mut ors = [false; RECORD_LIMIT + 1];
     let mut depth = 0;
     let mut place = 0;
     let mut count = 0;
     let mut saved = 0;
     while count < RECORD_LIMIT {
-        let answer = expr::read(flags, bytes, place);
+        let answer = expr::step(flags, bytes, place);
         let Reading::Found(node) = answer else {
             let Reading::Refused(refusal) = answer else {
                 return finished(stack[0], count, saved, depth, bytes.len());
@@ -120,9 +120,10 @@ fn larger(x: u16, y: u16) -> u16
     x
 }
 
-// The second expression if it is well formed and smaller by size, then depth; else the first; an empty part of the first where either is refused.
+// The second slice if its expression is smaller by size, then depth; else the first; where the flag count or either expression is refused, the empty
+// part at the front of the first, of which only the ghost name is left free.
 pub fn cheaper<'a>(flags: usize, first: &'a [u8], second: &'a [u8]) -> &'a [u8]
-    ensures { λ r. ⌜ now r ≡ Calls.cheaperOfTwo flags (now (first .entry)) (now (second .entry)) ⌝ }
+    ensures { λ r. ⌜ r ≡ cheaperPart flags (first .entry) (second .entry) (r .name) ⌝ }
 {
     let one = compute_cost(flags, first);
     let Costing::Known(a) = one else {
@@ -138,9 +139,9 @@ pub fn cheaper<'a>(flags: usize, first: &'a [u8], second: &'a [u8]) -> &'a [u8]
     first
 }
 
-// The part of a slice that holds nothing.
+// The part at the front of a slice that holds nothing.
 fn empty(s: &[u8]) -> &[u8]
-    ensures { λ r. ⌜ now r ≡ [] ⌝ }
+    ensures { λ r. ⌜ r ≡ emptyPart (s .entry) (r .name) ⌝ }
 {
     &s[..0]
 }

@@ -1,9 +1,10 @@
 -- The flags of a form of six flags, read off its word: those that occur, and those that occur as single-flag monomials.
--- It rests on the six flags' words and on the laws of words and of unions (bits, FlagWords, Sets and Union). Assumes nothing.
+-- It rests on the flags' words (mask_words, Entries) and on the laws of words and of unions (bits, Sets and Union).
 --   made k d                 == the number whose digits below k are d
 --   made-six, made-bits      == all six as one sum; a mask of six flags is made of its bits
+--   occurs-word              == whether a flag occurs
 --   flags-made, singles-made == the flags that occur, and the single flags
---   singles-lt               == the single flags are flags below six
+--   singles-lt, singles-below == the single flags are flags below six; so for a form
 use mathlib.Core.Bool.{Bool}
 use mathlib.Core.Path.{_≡_, sym, ap, ap₂, _∙_}
 use Prim.Native.Nat.{ℕ, zero, suc, _+_, _*_, _/_, _%_, _^_, _<_}
@@ -13,17 +14,20 @@ use lib.Bits.{bitAnd}
 use lib.Count.{ones}
 use lib.Dec.{eqb, ltb}
 use Rattle.bits.specs.Bit.{bit, digit}
-use Rattle.bits.specs.Range.{keep}
+use Rattle.bits.specs.Range.{any, keep}
 use Rattle.bits.specs.Sum.{union}
 use Rattle.bits.specs.Word.{places}
 use Rattle.bits.proofs.Bit.{digit-bit, mod-pow-suc}
-use Rattle.bits.proofs.FlagWords.{flagWord, bit-flagWord}
 use Rattle.bits.proofs.Range.{any-ext}
 use Rattle.bits.proofs.Ascending.{below-keep}
 use Rattle.bits.proofs.Sets.{any-bit, mem-bit}
 use Rattle.bits.proofs.Union.{bit-union, union-lt, bit-union-singles}
 use Rattle.bits.proofs.Word.{below-places, places-lt}
 use Rattle.rules.specs.Cleanup.{singles}
+use Rattle.mask_words.specs.Lookup.{maskCount, flagWord}
+use Rattle.mask_words.proofs.Entries.{bit-flagWord}
+use Rattle.form.specs.Masks.{masks}
+use Rattle.form.specs.declared.Form.{Form}
 
 abbrev pub made : ℕ → (ℕ → ℕ) → ℕ
 made zero d = 0
@@ -40,19 +44,23 @@ made-mod (suc k) u d e =
 pub made-bits : (u : ℕ) (d : ℕ → ℕ) → u < 64 → ((i : ℕ) → i < 6 → digit (bit u i) ≡ d i) → u ≡ made 6 d
 made-bits u d h e = sym (mod-eq-of-lt h) ∙ made-mod 6 u d e
 
-module _ (w : ℕ) (h : w < 2 ^ 64) where
-  pub flags-made : union (places 64 w) ≡ made 6 (λ k. digit (ltb 0 (bitAnd w (flagWord k))))
-  flags-made =
-      made-bits (union (places 64 w)) (λ k. digit (ltb 0 (bitAnd w (flagWord k)))) (union-lt 6 (places 64 w) (below-places 64 w))
-      (λ k l. ap digit (bit-union (places 64 w) k
-      ∙ any-ext (λ m. bit m k) (bit (flagWord k)) (places 64 w) (λ m e. sym (bit-flagWord k m l (places-lt 64 w m e)))
-      ∙ any-bit 64 w (flagWord k) h))
+pub occurs-word : (w : ℕ) → w < 2 ^ 64 → (k : ℕ) → any (λ m. bit m k) (places 64 w) ≡ ltb 0 (bitAnd w (flagWord k))
+occurs-word w h k =
+    any-ext (λ m. bit m k) (bit (flagWord k)) (places 64 w) (λ m e. sym (bit-flagWord k m (places-lt 64 w m e))) ∙ any-bit 64 w (flagWord k) h
+
+pub flags-made : (w : ℕ) → union (places 64 w) ≡ made 6 (λ k. digit (any (λ m. bit m k) (places 64 w)))
+flags-made w =
+    let l = places 64 w in
+    made-bits (union l) (λ k. digit (any (λ m. bit m k) l)) (union-lt 6 l (below-places 64 w)) (λ k h. ap digit (bit-union l k))
 
 pub singles-lt : (w : ℕ) → singles (places 64 w) < 64
 unfolding singles
 singles-lt w =
     let p : ℕ → Bool = λ m. eqb (ones m) 1 in
     union-lt 6 (keep p (places 64 w)) (below-keep 64 p (places 64 w) (below-places 64 w))
+
+pub singles-below : (f : Form) → singles (masks f) < maskCount
+singles-below f = singles-lt (f .word)
 
 pub singles-made : (w : ℕ) → w < 2 ^ 64 → singles (places 64 w) ≡ made 6 (λ k. w / 2 ^ (2 ^ k) % 2)
 unfolding singles

@@ -1,8 +1,6 @@
-pub mod Entries
+pub mod Masks
 pub mod Flags
 pub mod Words
-pub mod Chosen
-pub mod Saving
-pub mod Partial
-pub mod Cubes
-pub mod Shared
+pub mod Literals
+pub mod Levels
+pub mod Injective

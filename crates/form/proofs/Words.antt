@@ -1,6 +1,6 @@
 -- The parts of a form that document 01 speaks of, made by operations on the form's word.
--- It rests on the laws of words as sets of places (bits, Sets), on the tables' entries (Entries) and on the laws of covered monomials (rules, Covered).
--- Assumes nothing.
+-- It rests on the laws of words as sets of places (bits, Sets), on the words about masks (mask_words, Entries) and on the laws of covered monomials
+-- (laws, Covered).
 --   constant-word, count-word                    == the constant; how many monomials there are
 --   pair-positive, pair-word                     == the two monomials of a form that has two
 --   family-word                                  == whether the form is a whole family
@@ -16,10 +16,10 @@ use native.Mathlib.Omega.{arith}
 use lib.Bits.{bitAnd, and-le-l}
 use lib.Count.{ones, ones-step, trailingZeros}
 use lib.Dec.{ltb, eqb}
-use lib.ListN.{length, getD}
+use lib.ListN.{length}
 use Rattle.bits.specs.Bit.{bit, digit, within}
-use Rattle.bits.specs.Range.{keep, upto, mem, same}
-use Rattle.bits.specs.Word.{places, word}
+use Rattle.bits.specs.Range.{keep, mem, same}
+use Rattle.bits.specs.Word.{places}
 use Rattle.bits.proofs.Bit.{digit-bit}
 use Rattle.bits.proofs.Mask.{within-le}
 use Rattle.bits.proofs.Range.{keep-ext, keep-keep}
@@ -29,28 +29,26 @@ use Rattle.bits.proofs.Sets.{mem-bit, places-and-not, places-even, places-shr, 
 use Rattle.rules.specs.Cleanup.{family, singles, isFamily, covered, stripped}
 use Rattle.rules.specs.Form.{literals}
 use Rattle.rules.specs.Monomial.{constant, monomials}
-use Rattle.rules.proofs.Covered.{covered-keep, covered-within}
-use Rattle.rules.proofs.Family.{ascending-family}
-use Rattle.rules.proofs.Literals.{literals-monomials}
-use Rattle.form.specs.Masks.{familyWords, supersetWords}
-use Rattle.form.proofs.Entries.{getD-families, getD-supersets, bit-family, below-family, family-lt, bit-superset, superset-lt}
+use Rattle.laws.proofs.form.Covered.{covered-keep, covered-within}
+use Rattle.laws.proofs.form.Family.{ascending-family}
+use Rattle.laws.proofs.form.Literals.{literals-monomials}
+use Rattle.mask_words.specs.Lookup.{subsetWord, supersetWord}
+use Rattle.mask_words.proofs.Entries.{bit-subsets, below-family, subsets-lt, bit-supersets, supersets-lt}
 use Rattle.form.proofs.Flags.{singles-lt}
 
-module _ (w c : ℕ) (k : c < 64) where
-  pub uncovered-word : places 64 (bitAnd w ((2 ^ 64 - 1) - getD supersetWords c 0)) ≡ keep (λ m. not (within c m)) (places 64 w)
+module _ (w c : ℕ) where
+  pub uncovered-word : places 64 (bitAnd w ((2 ^ 64 - 1) - supersetWord c)) ≡ keep (λ m. not (within c m)) (places 64 w)
   uncovered-word =
-      let v = word (keep (within c) (upto 64)) in
-      ap (λ (x : ℕ). places 64 (bitAnd w ((2 ^ 64 - 1) - x))) (getD-supersets c k) ∙ places-and-not 64 w v (superset-lt c)
-      ∙ keep-ext (λ m. not (bit v m)) (λ m. not (within c m)) (places 64 w) (λ m e. ap not (bit-superset c m (places-lt 64 w m e)))
+      places-and-not 64 w (supersetWord c) (supersets-lt c)
+      ∙ keep-ext (λ m. not (bit (supersetWord c) m)) (λ m. not (within c m)) (places 64 w) (λ m e. ap not (bit-supersets c m (places-lt 64 w m e)))
 
-  containing-word : places 64 (bitAnd w (getD supersetWords c 0)) ≡ keep (λ m. within c m) (places 64 w)
+  containing-word : places 64 (bitAnd w (supersetWord c)) ≡ keep (λ m. within c m) (places 64 w)
   containing-word =
-      let v = word (keep (within c) (upto 64)) in
-      ap (λ (x : ℕ). places 64 (bitAnd w x)) (getD-supersets c k) ∙ places-and 64 w v
-      ∙ keep-ext (bit v) (λ m. within c m) (places 64 w) (λ m e. bit-superset c m (places-lt 64 w m e))
+      places-and 64 w (supersetWord c)
+      ∙ keep-ext (bit (supersetWord c)) (λ m. within c m) (places 64 w) (λ m e. bit-supersets c m (places-lt 64 w m e))
 
   -- the constant, which a cube of no flag covers too, has no literal
-  pub covered-literals : literals (places 64 (bitAnd w (getD supersetWords c 0))) ≡ literals (covered c (places 64 w))
+  pub covered-literals : literals (places 64 (bitAnd w (supersetWord c))) ≡ literals (covered c (places 64 w))
   unfolding covered
   covered-literals =
       let l = places 64 w in
@@ -60,11 +58,10 @@ module _ (w c : ℕ) (k : c < 64) where
       ∙ keep-ext (λ m. within c m && ltb 0 m) (λ m. ltb 0 m && within c m) l (λ m e. and-comm (within c m) (ltb 0 m))
       ∙ sym (keep-keep (λ m. within c m) (λ m. ltb 0 m) l))
 
-  pub without-word : places 64 (bitAnd w ((2 ^ 64 - 1) - getD familyWords c 0)) ≡ keep (λ m. not (mem m (family c))) (places 64 w)
-  without-word =
-      let v = word (family c) in
-      ap (λ (x : ℕ). places 64 (bitAnd w ((2 ^ 64 - 1) - x))) (getD-families c k) ∙ places-and-not 64 w v (family-lt c k)
-      ∙ keep-ext (λ m. not (bit v m)) (λ m. not (mem m (family c))) (places 64 w) (λ m e. ap not (bit-family c m))
+  pub without-word : c < 64 → places 64 (bitAnd w ((2 ^ 64 - 1) - subsetWord c)) ≡ keep (λ m. not (mem m (family c))) (places 64 w)
+  without-word k =
+      places-and-not 64 w (subsetWord c) (subsets-lt c k)
+      ∙ keep-ext (λ m. not (bit (subsetWord c) m)) (λ m. not (mem m (family c))) (places 64 w) (λ m e. ap not (bit-subsets c m))
 
 module _ (w : ℕ) (h : w < 2 ^ 64) where
   pub constant-word : w % 2 ≡ digit (constant (places 64 w))
@@ -88,20 +85,19 @@ module _ (w : ℕ) (h : w < 2 ^ 64) where
     pub pair-word : monomials (places 64 w) ≡ trailingZeros 64 (w / 2 * 2) ∷ trailingZeros 64 (bitAnd (w / 2 * 2) (w / 2 * 2 - 1)) ∷ []
     pair-word = sym (places-even 64 w) ∙ places-two 64 (w / 2 * 2) small many
 
-  pub family-word : (ltb 0 (singles (places 64 w)) && eqb (w / 2 * 2) (getD familyWords (singles (places 64 w)) 0)) ≡ isFamily (places 64 w)
-  unfolding isFamily
+  pub family-word : (ltb 0 (singles (places 64 w)) && eqb (w / 2 * 2) (subsetWord (singles (places 64 w)))) ≡ isFamily (places 64 w)
+  unfolding isFamily subsetWord
   family-word =
       let u = singles (places 64 w) in
-      let l = singles-lt w in
       ap (λ (b : Bool). ltb 0 u && b)
-      (ap (eqb (w / 2 * 2)) (getD-families u l) ∙ sym (same-places 64 (w / 2 * 2) (family u) small (ascending-family u) (below-family u l))
+      (sym (same-places 64 (w / 2 * 2) (family u) small (ascending-family u) (below-family u (singles-lt w)))
       ∙ ap (λ (r : List ℕ). same r (family u)) (places-even 64 w))
 
-  pub stripped-word : (c : ℕ) → 0 < c → c < 64 → places 64 (bitAnd w (getD supersetWords c 0) / 2 ^ c) ≡ stripped c (places 64 w)
+  pub stripped-word : (c : ℕ) → 0 < c → places 64 (bitAnd w (supersetWord c) / 2 ^ c) ≡ stripped c (places 64 w)
   unfolding stripped
-  stripped-word c p k =
-      let v = bitAnd w (getD supersetWords c 0) in
-      let s : v < 2 ^ 64 = lt-of-le-of-lt (and-le-l w (getD supersetWords c 0)) h in
-      let e = containing-word w c k ∙ sym (covered-keep c p (places 64 w)) in
+  stripped-word c p =
+      let v = bitAnd w (supersetWord c) in
+      let s : v < 2 ^ 64 = lt-of-le-of-lt (and-le-l w (supersetWord c)) h in
+      let e = containing-word w c ∙ sym (covered-keep c p (places 64 w)) in
       places-shr 64 v c s (λ i b. within-le c i (covered-within c (places 64 w) i (ap (mem i) (sym e) ∙ mem-bit 64 v i s ∙ b)))
       ∙ ap (map (λ m. m - c)) e

@@ -1,3 +1,1 @@
 pub mod Masks
-pub mod Chosen
-pub mod Reach

@@ -1,22 +1,23 @@
-// A form of at most six flags by value: one word, whose bit m is the mask m and whose bit 0 is the constant. Whatever looks at words stands here;
-// the cleanup above asks only these questions. It rests on `anf_form` and on the definitions of `rules`.
-pub mod search;
-pub mod tables;
-
+// A form of at most six flags by value: one word, whose bit m is the mask m and whose bit 0 is the constant. Whoever asks a form these questions need
+// not look at its word. It rests on `mask_words`.
+use mask_words::Lookup;
 ghost use mathlib.Core.Bool.{not};
-ghost use mathlib.Core.List.{[], _∷_};
+ghost use mathlib.Core.List.{[], _∷_, map};
 ghost use mathlib.Core.Path.{_≡_};
-ghost use Prim.Native.Nat.{_<_, _≤_};
-ghost use lib.Dec.{ltb};
+ghost use Prim.Native.Nat.{_+_, _<_, _≤_};
+ghost use lib.Dec.{eqb};
 ghost use lib.ListN.{length};
 ghost use lib.Seq.{sets};
-ghost use Rattle.bits.specs.Bit.{within, digit};
-ghost use Rattle.bits.specs.Range.{keep, mem};
+ghost use Rattle.bits.specs.Bit.{bit, within, digit};
+ghost use Rattle.bits.specs.Range.{any, keep, mem};
+ghost use Rattle.bits.specs.Stored.{Room, Stored};
 ghost use Rattle.bits.specs.Sum.{union};
 ghost use Rattle.rules.specs.Cleanup as paper;
 ghost use Rattle.rules.specs.Form as raw;
 ghost use Rattle.rules.specs.Monomial as monomial;
-ghost use Rattle.form.specs.Masks.{masks, familyWords, supersetWords};
+ghost use Rattle.mask_words.specs.inner.Degree.{ofDegree};
+ghost use Rattle.mask_words.specs.Lookup.{maskCount, lookupWords};
+ghost use Rattle.form.specs.Masks.{masks};
 
 pub struct Form {
     pub word: u64,
@@ -29,6 +30,20 @@ pub struct Pair {
 }
 
 impl Form {
+    // How many masks there are, the constant's too.
+    pub fn size(self) -> usize
+        ensures { λ r. ⌜ (r ≡ length (masks self)) × (r ≤ maskCount) ⌝ }
+    {
+        mask_words::ones(self.word)
+    }
+
+    // Whether there is no mask at all, not even the constant's.
+    pub fn is_empty(self) -> bool
+        ensures { λ r. ⌜ r ≡ eqb (length (masks self)) 0 ⌝ }
+    {
+        self.word == 0
+    }
+
     // The constant, 0 or 1.
     pub fn constant(self) -> usize
         ensures { λ r. ⌜ r ≡ digit (monomial.constant (masks self)) ⌝ }
@@ -40,14 +55,7 @@ impl Form {
     pub fn count(self) -> usize
         ensures { λ r. ⌜ r ≡ length (monomial.monomials (masks self)) ⌝ }
     {
-        u64::count_ones(self.word / 2) as usize
-    }
-
-    // Whether there is no mask at all, not even the constant's.
-    pub fn is_empty(self) -> bool
-        ensures { λ r. ⌜ r ≡ lib.Dec.eqb (length (masks self)) 0 ⌝ }
-    {
-        self.word == 0
+        mask_words::ones(self.word / 2)
     }
 
     // The two monomials of a form that has just two.
@@ -71,86 +79,112 @@ impl Form {
         (low + high) as usize
     }
 
+    // 1 where a flag occurs, else 0.
+    fn occurs(self, flag: usize) -> usize
+        requires { ⌜ flag < 6 ⌝ }
+        ensures { λ r. ⌜ (r ≡ digit (any (λ m. bit m flag) (masks self))) × (r ≤ 1) ⌝ }
+    {
+        let words = mask_words::flag_words();
+        if self.word & words[flag] == 0 {
+            return 0;
+        }
+        1
+    }
+
     // The flags that occur.
     pub fn flags(self) -> usize
         ensures { λ r. ⌜ r ≡ union (masks self) ⌝ }
     {
-        let word = self.word;
-        occurs(word & 0xaaaa_aaaa_aaaa_aaaa)
-            + occurs(word & 0xcccc_cccc_cccc_cccc) * 2
-            + occurs(word & 0xf0f0_f0f0_f0f0_f0f0) * 4
-            + occurs(word & 0xff00_ff00_ff00_ff00) * 8
-            + occurs(word & 0xffff_0000_ffff_0000) * 16
-            + occurs(word & 0xffff_ffff_0000_0000) * 32
+        let low = self.occurs(0) + self.occurs(1) * 2 + self.occurs(2) * 4;
+        let high = self.occurs(3) * 8 + self.occurs(4) * 16 + self.occurs(5) * 32;
+        low + high
     }
 
-    // The cost of the raw form.
+    // The total number of flags in the masks. A mask's count of ones has three binary digits: the masks that have the digit are counted for each of
+    // them.
+    fn literals(self) -> usize
+        ensures { λ r. ⌜ r ≡ raw.literals (masks self) ⌝ }
+    {
+        mask_words::ones(self.word & 0x6996_9669_9669_6996)
+            + 2 * mask_words::ones(self.word & 0x8117_177e_177e_7ee8)
+            + 4 * mask_words::ones(self.word & 0xfee8_e880_e880_8000)
+    }
+
+    // The cost of the raw form: twice its literals and its constant, less one.
     pub fn raw_cost(self) -> usize
         ensures { λ r. ⌜ r ≡ raw.rawCost (masks self) ⌝ }
     {
-        anf_form::raw_cost(self.word)
+        if self.is_empty() {
+            return 1;
+        }
+        2 * self.literals() + 2 * self.constant() - 1
     }
 
-    // All terms in the raw form's order, at the front of `out`; it answers how many there are.
+    // The masks that have that many ones, counted from `base`, from place `at` of `out` on; the place after them.
+    pub fn list_degree(self, degree: usize, base: usize, out: &mut [u32], at: usize) -> usize
+        requires { ⌜ (base ≤ 65536) × Room (ofDegree degree (masks self)) at (now out) ⌝ }
+        ensures { λ r. ⌜ Stored (map (λ m. base + m) (ofDegree degree (masks self))) at r (now (out .entry)) (now (out .exit)) ⌝ }
+    {
+        mask_words::list(self.word & mask_words::with_ones(degree), base, out, at)
+    }
+
+    // All terms in the raw form's order, at the front of `out`, by count of ones, then mask: the constant 1 is the mask 0 and comes first. It answers
+    // how many there are.
     pub fn terms(self, out: &mut [u32]) -> usize
         requires { ⌜ length (masks self) ≤ length (now out) ⌝ }
         ensures { λ r. ⌜ (r ≡ length (masks self)) × (now (out .exit) ≡ sets (now (out .entry)) 0 (monomial.ordered (masks self))) ⌝ }
     {
-        anf_form::terms(self.word, out)
+        let mut at = 0;
+        for degree in 0..7 {
+            at = self.list_degree(degree, 0, out, at);
+        }
+        at
     }
 
     // Whether the monomials are exactly the nonempty subsets of the single flags.
-    pub fn is_family(self, families: &[u64; 64]) -> bool
-        requires { ⌜ now families ≡ familyWords ⌝ }
+    pub fn is_family(self, lookup: &Lookup) -> bool
+        requires { ⌜ now lookup ≡ lookupWords ⌝ }
         ensures { λ r. ⌜ r ≡ paper.isFamily (masks self) ⌝ }
     {
         let singles = self.singles();
-        (0 < singles) & (self.word / 2 * 2 == families[singles])
+        (0 < singles) & (self.word / 2 * 2 == mask_words::subsets(singles, lookup))
     }
 
     // The monomials that contain the whole cube, without its flags: a mask that loses the cube's flags moves down by the cube's number.
-    pub fn stripped(self, cube: usize, supersets: &[u64; 64]) -> Form
-        requires { ⌜ (now supersets ≡ supersetWords) × (0 < cube) × (cube < 64) ⌝ }
+    pub fn stripped(self, cube: usize, lookup: &Lookup) -> Form
+        requires { ⌜ (now lookup ≡ lookupWords) × (0 < cube) × (cube < maskCount) ⌝ }
         ensures { λ r. ⌜ masks r ≡ paper.stripped cube (masks self) ⌝ }
     {
-        let covered = self.word & supersets[cube];
+        let covered = self.word & mask_words::supersets(cube, lookup);
         let word = covered >> cube;
         Form { word }
     }
 
     // The total number of flags in the monomials that contain the whole cube.
-    pub fn covered_literals(self, cube: usize, supersets: &[u64; 64]) -> usize
-        requires { ⌜ (now supersets ≡ supersetWords) × (cube < 64) ⌝ }
+    pub fn covered_literals(self, cube: usize, lookup: &Lookup) -> usize
+        requires { ⌜ (now lookup ≡ lookupWords) × (cube < maskCount) ⌝ }
         ensures { λ r. ⌜ r ≡ raw.literals (paper.covered cube (masks self)) ⌝ }
     {
-        anf_form::literals(self.word & supersets[cube])
+        let word = self.word & mask_words::supersets(cube, lookup);
+        let covered = Form { word };
+        covered.literals()
     }
 
     // The masks that do not contain the whole cube.
-    pub fn uncovered(self, cube: usize, supersets: &[u64; 64]) -> Form
-        requires { ⌜ (now supersets ≡ supersetWords) × (cube < 64) ⌝ }
+    pub fn uncovered(self, cube: usize, lookup: &Lookup) -> Form
+        requires { ⌜ (now lookup ≡ lookupWords) × (cube < maskCount) ⌝ }
         ensures { λ r. ⌜ masks r ≡ keep (λ m. not (within cube m)) (masks self) ⌝ }
     {
-        let word = self.word & !supersets[cube];
+        let word = self.word & !mask_words::supersets(cube, lookup);
         Form { word }
     }
 
     // The form without the nonempty subsets of a mask.
-    pub fn without(self, mask: usize, families: &[u64; 64]) -> Form
-        requires { ⌜ (now families ≡ familyWords) × (mask < 64) ⌝ }
+    pub fn without(self, mask: usize, lookup: &Lookup) -> Form
+        requires { ⌜ (now lookup ≡ lookupWords) × (mask < maskCount) ⌝ }
         ensures { λ r. ⌜ masks r ≡ keep (λ x. not (mem x (paper.family mask))) (masks self) ⌝ }
     {
-        let word = self.word & !families[mask];
+        let word = self.word & !mask_words::subsets(mask, lookup);
         Form { word }
     }
-}
-
-// 1 where some mask is left, else 0.
-fn occurs(word: u64) -> usize
-    ensures { λ r. ⌜ (r ≡ digit (ltb 0 word)) × (r ≤ 1) ⌝ }
-{
-    if word == 0 {
-        return 0;
-    }
-    1
 }

@@ -1,3 +1,4 @@
 pub mod Raised
 pub mod Room
 pub mod Stray
+pub mod Injective

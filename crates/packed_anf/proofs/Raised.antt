@@ -1,5 +1,5 @@
 -- One coefficient more is 1 where its bit is set in the word that holds it, and no other changes.
--- It rests on the laws of bits (bits, Bit) and on those of stores into a list (lib.Seq). Assumes nothing.
+-- It rests on the laws of bits (bits, Bit) and on those of stores into a list (lib.Seq).
 --   raised           == the words after that store
 use mathlib.Core.Bool.{Bool, true, false, _||_, or-comm}
 use mathlib.Core.List.{List}

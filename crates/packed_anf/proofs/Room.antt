@@ -1,5 +1,5 @@
 -- How the settings of n flags lie in words: with fewer than six flags they leave room in one word, and with six or more they fill all words.
--- It rests on the laws of the number of words (rules, Packed) and of powers of two (lib.Pow). Assumes nothing.
+-- It rests on the laws of the number of words (laws, Packed) and of powers of two (lib.Pow).
 --   wordCount-full  == six flags or more
 --   Room n, room    == both cases
 --   wordCount-le    == there are no more words than settings
@@ -12,7 +12,7 @@ use lib.Dec.{ltb}
 use lib.Pow.{pow-mono, pow-add, pow-pos}
 use borrow.Author.Tests.{ltb-true, ltb-false}
 use Rattle.rules.specs.Coefficient.{wordCount}
-use Rattle.rules.proofs.Packed.{wordCount-small, wordCount-large}
+use Rattle.laws.proofs.transform.Packed.{wordCount-small, wordCount-large}
 
 pub wordCount-full : (n : ℕ) → 6 ≤ n → 64 * wordCount n ≡ 2 ^ n
 wordCount-full n h =

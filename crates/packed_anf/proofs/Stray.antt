@@ -1,5 +1,5 @@
 -- Stray coefficients: with six flags or more there is no room for one, and with fewer the first word tells by its size.
--- It rests on the laws of coefficient words (rules, Packed, and Room) and of bits (bits, Bit). Assumes nothing.
+-- It rests on the laws of coefficient words (laws, Packed; Room) and of bits (bits, Bit).
 --   stray-none       == six flags or more
 --   stray-first      == fewer than six: the first word is greater than its low bits
 use mathlib.Core.Bool.{Bool, true, false, _&&_, false≢true}
@@ -17,7 +17,7 @@ use Rattle.bits.proofs.Truth.{and-true-l, and-true-r}
 use Rattle.bits.proofs.Range.{any-mem, mem-from}
 use Rattle.bits.proofs.Bit.{bit-above, bit-mod-high, bits-lt}
 use Rattle.rules.specs.Coefficient.{wordCount, packed, stray}
-use Rattle.rules.proofs.Packed.{wordCount-small, packed-at, not-stray}
+use Rattle.laws.proofs.transform.Packed.{wordCount-small, packed-at, not-stray}
 use Rattle.packed_anf.proofs.Room.{wordCount-full}
 
 pub stray-none : (n : ℕ) (ws : List ℕ) → 6 ≤ n → stray n ws ≡ false

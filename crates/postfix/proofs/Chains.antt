@@ -1,14 +1,16 @@
 -- What a chain of flags is written as: the first flag's record, then each further flag's record and the operator's mark. A mask's flags are read off
--- lowest first. It rests on the laws of places (bits, Word) and of operators (Writes). Assumes nothing.
+-- lowest first. It rests on the laws of places (bits, Word) and of operators (Writes).
 --   write-chain, write-cube, write-orChain     == the bytes of a chain
 --   records-cube, records-orChain              == its records
 --   cube-zero                                  == the product of no flag
 --   flags-places                               == a mask's flags are its places in any word that holds it
+--   flags-none, flags-lowest                   == none, and lowest first
 --   chained-lowest, linked-lowest, linked-none == the chain of a mask, lowest flag first
 use mathlib.Core.Bool.{true, false}
 use mathlib.Core.List.{List, [], _∷_, _++_, map, foldl, append-assoc, append-nil}
 use mathlib.Core.Path.{_≡_, refl, sym, ap, _∙_}
 use Prim.Native.Nat.{ℕ, _-_, _*_, _^_, _<_}
+use native.Mathlib.Nat.{lt-trans}
 use native.Mathlib.Omega.{arith}
 use lib.Bits.{bitAnd}
 use lib.Count.{trailingZeros}
@@ -19,19 +21,19 @@ use Rattle.bits.specs.Range.{from, keep, Below}
 use Rattle.bits.specs.Word.{places}
 use Rattle.bits.proofs.Ascending.{mem-below}
 use Rattle.bits.proofs.Bit.{bit-lt, lt-pow}
-use Rattle.bits.proofs.Places.{places-zero}
+use Rattle.bits.proofs.Lowest.{clear-lt}
 use Rattle.bits.proofs.Truth.{and-true-r}
 use Rattle.bits.proofs.Word.{ascending-places, mem-places, word-places, places-word, places-lowest}
 use Rattle.rules.specs.Form.{flags, chain, cube, orChain}
 use Rattle.rules.specs.Tree.{Tree, CO, VA, size, write}
-use Rattle.rules.proofs.Cost.{size-cube, size-orChain, termCost-suc}
-use Rattle.rules.proofs.Parts.{length-flags}
+use Rattle.laws.proofs.cost.Cost.{size-cube, size-orChain, termCost-suc}
+use Rattle.laws.proofs.form.Parts.{length-flags}
 use Rattle.postfix.specs.Written.{linked, chained}
 use Rattle.postfix.proofs.Writes.{Joins, an, or}
 
 -- ---- the flags of a mask
 
-pub flags-places : (k m : ℕ) → m < 2 ^ k → flags m ≡ places k m
+flags-places : (k m : ℕ) → m < 2 ^ k → flags m ≡ places k m
 flags-places k m h =
     let small : Below k (flags m) = mem-below k (flags m) (λ i e. bit-lt k m i h (and-true-r (ltb i m) (bit m i) (sym (mem-places m m i) ∙ e))) in
     sym (places-word k (flags m) (ascending-places m m) small) ∙ ap (places k) (word-places m m (lt-pow m))
@@ -74,16 +76,25 @@ module _ (m : ℕ) (h : 0 < m) where
 
 -- ---- lowest flag first
 
+pub flags-none : flags 0 ≡ []
+unfolding places keep from
+flags-none = refl
+
+pub flags-lowest : (w : ℕ) → 0 < w → w < 2 ^ 64 → flags w ≡ trailingZeros 64 w ∷ flags (bitAnd w (w - 1))
+flags-lowest w p h =
+    flags-places 64 w h ∙ places-lowest 64 w p h
+    ∙ ap {B = List ℕ} (λ l. trailingZeros 64 w ∷ l) (sym (flags-places 64 (bitAnd w (w - 1)) (lt-trans (clear-lt 64 w p h) h)))
+
 module _ (mark : List ℕ) where
-  pub linked-none : linked mark (places 64 0) ≡ []
+  pub linked-none : linked mark (flags 0) ≡ []
   unfolding linked
-  linked-none = rw places-zero
+  linked-none = ap (linked mark) flags-none
 
   module _ (w : ℕ) (p : 0 < w) (h : w < 2 ^ 64) where
-    pub linked-lowest : linked mark (places 64 w) ≡ write (VA (trailingZeros 64 w)) ++ mark ++ linked mark (places 64 (bitAnd w (w - 1)))
+    pub linked-lowest : linked mark (flags w) ≡ write (VA (trailingZeros 64 w)) ++ mark ++ linked mark (flags (bitAnd w (w - 1)))
     unfolding linked
-    linked-lowest = rw (places-lowest 64 w)
+    linked-lowest = ap (linked mark) (flags-lowest w p h)
 
-    pub chained-lowest : chained mark (flags w) ≡ write (VA (trailingZeros 64 w)) ++ linked mark (places 64 (bitAnd w (w - 1)))
+    pub chained-lowest : chained mark (flags w) ≡ write (VA (trailingZeros 64 w)) ++ linked mark (flags (bitAnd w (w - 1)))
     unfolding chained
-    chained-lowest = ap (chained mark) (flags-places 64 w h ∙ places-lowest 64 w p h)
+    chained-lowest = ap (chained mark) (flags-lowest w p h)

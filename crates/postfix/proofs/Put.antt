@@ -1,30 +1,28 @@
--- Runs of bytes written at a cursor, one after another: what is written, and the room that is left for the next. It rests on the laws of stores
--- (bits, Stores). Assumes nothing.
+-- Runs of bytes written at a cursor, one after another: what is written, and the room that is left for the next. It rests on the laws of runs
+-- in a buffer (bits, Stored).
 --   put-append                   == a run and another from where it ends are one run
 --   put-length                   == the buffer keeps its length
 --   put-eq, room-eq              == the same run, and the same room, under other names of the bytes and of their count
 --   room-first, room-next        == room for two runs is room for the first, and after it for the second; a run has no more records than bytes
 use mathlib.Core.List.{List, _++_}
-use mathlib.Core.Path.{_≡_, ap, ap₂, subst, subst₂, _∙_}
+use mathlib.Core.Path.{_≡_, subst, subst₂}
 use Prim.Native.Nat.{ℕ, _+_, _≤_}
 use native.Mathlib.Omega.{arith}
 use lib.ListN.{length, length-append}
-use lib.Seq.{sets, length-sets}
-use Rattle.bits.proofs.Stores.{sets-append}
+use Rattle.bits.proofs.Stored.{stored-append, stored-length}
 use Rattle.postfix.specs.Written.{Room, Put}
 use Rattle.postfix.specs.declared.Cursor.{Cursor}
 
 module _ {l m : List ℕ} {k j : ℕ} {a b c : Cursor} {out mid after : List ℕ} where
   pub put-append : Put l k a b out mid → Put m j b c mid after → Put (l ++ m) (k + j) a c out after
   put-append p q = record {
-    place = simp length-append (omega arith);
+    stored = stored-append (p .stored) (q .stored);
     records = omega arith;
-    bytes = q .bytes ∙ ap₂ (λ (s : List ℕ) (i : ℕ). sets s i m) (p .bytes) (p .place) ∙ sets-append l m out (a .place);
   }
 
 module _ {l : List ℕ} {k : ℕ} {a b : Cursor} {out after : List ℕ} where
   pub put-length : Put l k a b out after → length after ≡ length out
-  put-length p = ap length (p .bytes) ∙ length-sets out (a .place) l
+  put-length p = stored-length (p .stored)
 
   pub put-eq : {m : List ℕ} {j : ℕ} → l ≡ m → k ≡ j → Put l k a b out after → Put m j a b out after
   put-eq e f p = subst₂ (λ (s : List ℕ) (n : ℕ). Put s n a b out after) e f p

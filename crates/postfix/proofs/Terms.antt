@@ -1,5 +1,5 @@
--- The balanced fold of a part of a list of masks, as its halves: no term, one term, and more. It rests on the fold's own laws (rules, Parts) and on the
--- library's laws of parts of a list. Assumes nothing.
+-- The balanced fold of a part of a list of masks, as its halves: no term, one term, and more. It rests on the fold's own laws (laws, Parts) and on the
+-- library's laws of parts of a list.
 --   rest-fewer, rest-within                == what is left beside a half
 --   terms l from count                     == the products of count masks of l from `from` on
 --   terms-none, terms-one, terms-halves    == their fold
@@ -15,8 +15,8 @@ use lib.Seq.{sets, sets-eq, take-at, drop-cons, drop-drop, take-take, take-nil}
 use Rattle.rules.specs.Form.{cube, folded, rawForm}
 use Rattle.rules.specs.Monomial.{ordered}
 use Rattle.rules.specs.Tree.{Tree, CO, XO}
-use Rattle.rules.proofs.Ordered.{length-ordered}
-use Rattle.rules.proofs.Parts.{folded-none, folded-one, folded-halves}
+use Rattle.laws.proofs.form.Ordered.{length-ordered}
+use Rattle.laws.proofs.form.Parts.{folded-none, folded-one, folded-halves}
 
 -- ---- parts of a list
 

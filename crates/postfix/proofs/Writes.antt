@@ -1,5 +1,5 @@
 -- Trees written at a cursor: an operator's tree is its operands' records and its mark. It rests on the laws of runs (Put) and on the definitions of
--- `write`, `size` and `atop`. Assumes nothing.
+-- `write`, `size` and `atop`.
 --   size-write                           == each record has at least two bytes
 --   write-constant                       == a constant's record, from its digit
 --   atop-zero, atop-one                  == a tree with constant 0 and with constant 1, the constant being a digit

@@ -8,7 +8,7 @@ use mathlib.Core.List.{List, [], _∷_, _++_}
 use mathlib.Core.Path.{_≡_}
 use Prim.Native.Nat.{ℕ, _+_, _≤_}
 use lib.ListN.{length}
-use lib.Seq.{sets}
+use Rattle.bits.specs.Stored.{Stored}
 use Rattle.rules.specs.Tree.{Tree, VA, write, size}
 use Rattle.postfix.specs.declared.Cursor.{Cursor}
 
@@ -17,9 +17,8 @@ pub record Room (l : List ℕ) (a : Cursor) (out : List ℕ) : Type 0 where
   pub records : a .records ≤ a .place
 
 pub record Put (l : List ℕ) (k : ℕ) (a b : Cursor) (out after : List ℕ) : Type 0 where
-  pub place : b .place ≡ a .place + length l
+  pub stored : Stored l (a .place) (b .place) out after
   pub records : b .records ≡ a .records + k
-  pub bytes : after ≡ sets out (a .place) l
 
 abbrev pub Writes : Tree → Cursor → Cursor → List ℕ → List ℕ → Type 0
 Writes t a b out after = Put (write t) (size t) a b out after

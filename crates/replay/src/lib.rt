@@ -1,8 +1,6 @@
-// What the programs that replay recorded files share: a file opened by name, the numbers and records in it, the tables
-// that are lent to the library, and the line that counts what was compared. It rests on io and os.
+// What the programs that replay recorded files share: a file opened by name, the records in it, the sizes of tables, and
+// the line that tells what was compared. It rests on io and os, on what a file's bytes say and on the count.
 pub mod file;
-pub mod lent;
-pub mod numbers;
+pub mod line;
 pub mod records;
 pub mod sizes;
-pub mod tally;

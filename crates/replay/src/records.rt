@@ -1,7 +1,7 @@
 // An expression as the recorded files hold it, four bits a record: 0 and 1 are CO 0 and CO 1, 2 to 9 are VA 0 to VA 7,
 // then AN, OR, XO and NO; two records a byte, the earlier low. It rests on a recorded file.
 use crate::file;
-use crate::numbers::byte_at;
+use recorded::numbers::byte_at;
 
 const FIRST_LETTERS: [u8; 16] = *b"CCVVVVVVVVAOXN??";
 

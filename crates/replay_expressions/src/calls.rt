@@ -1,22 +1,30 @@
 // Each call of the library that a case can ask for, and its answer as an outcome. It rests on those calls.
-use crate::outcome::Outcome;
-use crate::outcome::damaged;
-use crate::outcome::given;
-use crate::outcome::refused;
 use anf_form::RawCost;
 use anf_form::raw_anf_cost;
+use comparison::outcome;
+use comparison::outcome::Outcome;
+use comparison::outcome::damaged;
+use comparison::outcome::given;
+use evaluation::Evaluation;
+use evaluation::evaluate;
 use examiner::Examination;
 use examiner::examine;
 use expr::Kind;
 use expr::Node;
 use expr::Reading;
-use expr::evaluation::Evaluation;
-use expr::evaluation::evaluate;
 use expr_cost::Costing;
+use expr_cost::Costs;
 use expr_cost::cheaper;
 use expr_cost::compute_cost;
-use replay::lent::set_table;
-use replay::numbers::word_at;
+use expr_cost::is_better;
+use recorded::numbers::half_at;
+use recorded::numbers::word_at;
+use recorded::slices::set_table;
+use rules::Refusal;
+
+fn refused(refusal: Refusal) -> Outcome {
+    outcome::refused(refusal.number, refusal.place)
+}
 
 // A record by the number that the files have for it.
 fn code(kind: Kind) -> usize {
@@ -32,14 +40,14 @@ fn code(kind: Kind) -> usize {
 
 fn found(node: Node) -> Outcome {
     let kind = node.kind;
-    given(code(kind), node.next, 0)
+    given(code(kind), node.next, 0, 0)
 }
 
 pub fn reading(flags: usize, bytes: &[u8], place: usize) -> Outcome {
     let answer = expr::read(flags, bytes, place);
     match answer {
         Reading::Found(node) => found(node),
-        Reading::End => given(255, 0, 0),
+        Reading::End => given(255, 0, 0, 0),
         Reading::Refused(refusal) => refused(refusal),
     }
 }
@@ -47,7 +55,7 @@ pub fn reading(flags: usize, bytes: &[u8], place: usize) -> Outcome {
 pub fn evaluation(flags: usize, bytes: &[u8], setting: usize) -> Outcome {
     let answer = evaluate(flags, bytes, setting);
     match answer {
-        Evaluation::Value(value) => given(value as usize, 0, 0),
+        Evaluation::Value(value) => given(value as usize, 0, 0, 0),
         Evaluation::Refused(refusal) => refused(refusal),
     }
 }
@@ -55,7 +63,7 @@ pub fn evaluation(flags: usize, bytes: &[u8], setting: usize) -> Outcome {
 pub fn costing(flags: usize, bytes: &[u8]) -> Outcome {
     let answer = compute_cost(flags, bytes);
     match answer {
-        Costing::Known(costs) => given(costs.cost, costs.size, costs.depth),
+        Costing::Known(costs) => given(costs.cost, costs.size, costs.depth, 0),
         Costing::Refused(refusal) => refused(refusal),
     }
 }
@@ -69,7 +77,7 @@ pub fn examination(flags: usize, entries: usize, bits: &[u8], bytes: &[u8]) -> O
     set_table(&mut table, bits);
     let answer = examine(flags, &table[0..entries], bytes);
     match answer {
-        Examination::Accepted(cost) => given(cost, 0, 0),
+        Examination::Accepted(cost) => given(cost, 0, 0, 0),
         Examination::Refused(refusal) => refused(refusal),
     }
 }
@@ -83,7 +91,7 @@ pub fn raw_costing(flags: usize, entries: usize, bits: &[u8]) -> Outcome {
     words[0] = word_at(bits, 0);
     let answer = raw_anf_cost(flags, &words[0..entries]);
     match answer {
-        RawCost::Cost(cost) => given(cost, 0, 0),
+        RawCost::Cost(cost) => given(cost, 0, 0, 0),
         RawCost::Refused(refusal) => refused(refusal),
     }
 }
@@ -92,13 +100,31 @@ pub fn raw_costing(flags: usize, entries: usize, bits: &[u8]) -> Outcome {
 pub fn choice<'a>(flags: usize, first: &'a [u8], second: &'a [u8]) -> Outcome {
     let chosen = cheaper(flags, first, second);
     if chosen.len() == 0 {
-        return given(0, 0, 0);
+        return given(0, 0, 0, 0);
     }
     if check::same(chosen, first) {
-        return given(1, 0, 0);
+        return given(1, 0, 0, 0);
     }
     if check::same(chosen, second) {
-        return given(2, 0, 0);
+        return given(2, 0, 0, 0);
     }
     damaged()
+}
+
+// Whether the second of two sizes and depths is better, as 0 or 1. The costs, by which neither must be chosen, are the
+// other's size.
+pub fn comparison(head: &[u8]) -> Outcome {
+    let size = half_at(head, 0) as usize;
+    let rival = half_at(head, 8) as usize;
+    let first = Costs {
+        cost: rival,
+        size,
+        depth: half_at(head, 4) as usize,
+    };
+    let second = Costs {
+        cost: size,
+        size: rival,
+        depth: half_at(head, 12) as usize,
+    };
+    given(is_better(second, first) as usize, 0, 0, 0)
 }

@@ -1,19 +1,21 @@
 // One case of cases.bin: a call with its arguments, and the outcome that document 01 gives it. It rests on the calls.
+// `number` and `result` are 0, or 1 to make the outcome's number, or its first result, a wrong one.
 use crate::calls;
-use crate::outcome;
-use crate::outcome::Outcome;
+use comparison::outcome;
+use comparison::outcome::Outcome;
+use recorded::numbers::byte_at;
+use recorded::numbers::pair_at;
+use recorded::numbers::word_at;
+use recorded::results::outcome_at;
 use replay::file;
-use replay::numbers::byte_at;
-use replay::numbers::pair_at;
-use replay::numbers::word_at;
 
 fn answer<'a>(head: &[u8], first: &'a [u8], second: &'a [u8]) -> Outcome {
     if head.len() < 38 {
         return outcome::damaged();
     }
-    let flags = word_at(&head[1..9], 0) as usize;
-    let extra = word_at(&head[9..17], 0) as usize;
-    let entries = pair_at(head, 17);
+    let flags = word_at(head, 1) as usize;
+    let extra = word_at(head, 9) as usize;
+    let entries = pair_at(head, 17) as usize;
     let bits = &head[19..27];
     let call = head[0];
     match call {
@@ -27,24 +29,38 @@ fn answer<'a>(head: &[u8], first: &'a [u8], second: &'a [u8]) -> Outcome {
     }
 }
 
-// The rest of a case: its two expressions, each as long as the slice that takes it.
-fn is_same_rest(fd: i32, head: &[u8], first: &mut [u8], second: &mut [u8]) -> bool {
-    if head.len() < 38 {
-        return false;
+fn expected(head: &[u8], number: u64, result: usize) -> Outcome {
+    let recorded = outcome_at(byte_at(head, 31) ^ number, head, 32);
+    Outcome {
+        number: recorded.number,
+        first: recorded.first ^ result,
+        second: recorded.second,
+        third: recorded.third,
+        fourth: recorded.fourth,
     }
+}
+
+// The rest of a case: its two expressions, each as long as the slice that takes it.
+fn is_same_rest(
+    fd: i32,
+    head: &[u8],
+    first: &mut [u8],
+    second: &mut [u8],
+    number: u64,
+    result: usize,
+) -> bool {
     if !file::fills(fd, first) {
         return false;
     }
     if !file::fills(fd, second) {
         return false;
     }
-    let outcome = answer(head, first, second);
-    outcome::is_recorded(outcome, byte_at(head, 31), &head[32..38])
+    outcome::is_same(answer(head, first, second), expected(head, number, result))
 }
 
-pub fn is_same(fd: i32, head: &[u8]) -> bool {
-    let one = pair_at(head, 27);
-    let other = pair_at(head, 29);
+pub fn is_same(fd: i32, head: &[u8], number: u64, result: usize) -> bool {
+    let one = pair_at(head, 27) as usize;
+    let other = pair_at(head, 29) as usize;
     if one > 2048 {
         return false;
     }
@@ -53,5 +69,12 @@ pub fn is_same(fd: i32, head: &[u8]) -> bool {
     }
     let mut first = [0u8; 2048];
     let mut second = [0u8; 2048];
-    is_same_rest(fd, head, &mut first[0..one], &mut second[0..other])
+    is_same_rest(
+        fd,
+        head,
+        &mut first[0..one],
+        &mut second[0..other],
+        number,
+        result,
+    )
 }

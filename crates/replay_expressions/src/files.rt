@@ -1,31 +1,53 @@
 // Reads the recorded files and replays each item of them: a head of a fixed size, and what the head says is after it.
 // What an item lacks, because its file is cut short or damaged, counts as a difference.
 use crate::cases;
+use crate::choices;
 use crate::costs;
 use crate::listings;
+use crate::listings::Asked;
+use comparison::tally;
+use comparison::tally::Tally;
 use replay::file;
-use replay::tally;
-use replay::tally::Tally;
 
+// Those named wrong are made so by the program, in every item of a file.
 pub enum Item {
     Case,
+    WrongNumber,
+    WrongResult,
     Costs,
+    Choice,
     Listing,
+    WrongFlags,
+    WrongRoom,
 }
 
 fn head_size(item: Item) -> usize {
     match item {
         Item::Case => 38,
+        Item::WrongNumber => 38,
+        Item::WrongResult => 38,
         Item::Costs => 8,
-        Item::Listing => 8,
+        Item::Choice => 21,
+        Item::Listing => 4,
+        Item::WrongFlags => 4,
+        Item::WrongRoom => 4,
     }
+}
+
+fn is_same_form(fd: i32, head: &[u8], flags: usize, lacking: usize) -> bool {
+    listings::is_same_form(fd, head, Asked { flags, lacking })
 }
 
 fn is_same(item: Item, fd: i32, head: &[u8]) -> bool {
     match item {
-        Item::Case => cases::is_same(fd, head),
+        Item::Case => cases::is_same(fd, head, 0, 0),
+        Item::WrongNumber => cases::is_same(fd, head, 1, 0),
+        Item::WrongResult => cases::is_same(fd, head, 0, 1),
         Item::Costs => costs::is_same(fd, head),
-        Item::Listing => listings::is_same(fd, head),
+        Item::Choice => choices::is_same(fd, head),
+        Item::Listing => is_same_form(fd, head, 17, 1),
+        Item::WrongFlags => is_same_form(fd, head, 16, 1),
+        Item::WrongRoom => is_same_form(fd, head, 17, 0),
     }
 }
 

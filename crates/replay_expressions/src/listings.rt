@@ -1,115 +1,141 @@
-// One form of listings.bin: what the original lists in the head, and the coefficients after it. It rests on the listing
-// call, which is also asked to refuse the form with 17 flags and in a buffer one entry short.
+// One form of listings.bin: the constant and the number of monomials in the head, and after it the coefficients and the
+// original's list. It rests on the listing call, which is also asked to refuse the form with too many flags and in a buffer
+// that is short.
+use anf_form::Contents;
 use anf_form::Listing;
 use anf_form::from_anf_coeffs;
+use comparison::masks;
+use comparison::outcome::Outcome;
+use comparison::outcome::given;
+use comparison::outcome::is_same;
+use comparison::outcome::refused;
+use recorded::numbers::byte_at;
+use recorded::numbers::pair_at;
+use recorded::slices::set_masks;
+use recorded::slices::set_words;
 use replay::file;
-use replay::numbers::byte_at;
-use replay::numbers::half_at;
-use replay::numbers::pair_at;
-use replay::numbers::word_at;
 use replay::sizes;
+ghost use mathlib.Core.Path.{_≡_};
+ghost use lib.ListN.{length};
+ghost use Rattle.rules.specs.Calls;
+ghost use Rattle.replay_expressions.specs.Listings.{contentsOf, listedBy, Compared};
 
 // Fills the lent buffer, so that a change past the result, or after a refusal, shows.
 const PATTERN: u32 = 0x89AB_CDEF;
 
-fn set_words(words: &mut [u64], bytes: &[u8; 8192]) {
-    let mut w = 0;
-    while w < words.len() {
-        words[w] = word_at(bytes, w);
-        w += 1;
-    }
+// The constant and the number of monomials are the results.
+fn listed(contents: Contents) -> Outcome
+    ensures { λ r. ⌜ r ≡ contentsOf contents ⌝ }
+{
+    given(contents.constant as usize, contents.count, 0, 0)
 }
 
-fn is_unchanged(out: &[u32]) -> bool {
-    let mut i = 0;
-    while i < out.len() {
-        if out[i] != PATTERN {
-            return false;
-        }
-        i += 1;
-    }
-    true
-}
-
-fn wide(mask: u32) -> u64 {
-    mask as u64
-}
-
-// 31 times the sum so far plus the mask, modulo 2^32, in the order of the list.
-fn checksum(masks: &[u32]) -> u64 {
-    let mut sum = 0;
-    let mut i = 0;
-    while i < masks.len() {
-        sum = std::num::wrapping_add_u64((sum % 4294967296) * 31, wide(masks[i]));
-        i += 1;
-    }
-    sum % 4294967296
-}
-
-fn is_refused(flags: usize, words: &[u64], out: &mut [u32], number: u64, place: usize) -> bool {
-    let answer = from_anf_coeffs(flags, words, out);
+fn told(answer: Listing) -> Outcome
+    ensures { λ r. ⌜ r ≡ listedBy answer ⌝ }
+{
     match answer {
-        Listing::Listed(_) => false,
-        Listing::Refused(refusal) => {
-            refusal.number == number && refusal.place == place && is_unchanged(out)
-        }
+        Listing::Listed(contents) => listed(contents),
+        Listing::Refused(refusal) => refused(refusal.number, refusal.place),
     }
 }
 
-// A buffer one entry short. A form with no monomial has none, since an empty buffer takes it.
-fn is_short_refused(flags: usize, words: &[u64], out: &mut [u32], count: usize) -> bool {
-    if count == 0 {
+// The listing call with the outcome that it must have and the whole buffer that it must leave. `out` holds the pattern.
+fn lists_as(flags: usize, words: &[u64], out: &mut [u32], expected: Outcome, left: &[u32]) -> bool
+    ensures { λ r. ⌜ Compared (Calls.listing flags (now (words .entry)) (length (now (out .entry)))) (now (out .exit)) expected (now (left .entry)) r ⌝ }
+{
+    let answer = from_anf_coeffs(flags, words, out);
+    is_same(told(answer), expected) & masks::are_same(out, left)
+}
+
+// What a listing is asked to refuse: so many flags, and a buffer with so many entries too few. 17 and 1 are right; 16 and 0
+// ask for the refusal of a good call, which must show as a difference.
+pub struct Asked {
+    pub flags: usize,
+    pub lacking: usize,
+}
+
+// A form with fewer monomials than the buffer is to lack has no such buffer: an empty one takes it.
+fn is_short_refused(
+    flags: usize,
+    words: &[u64],
+    out: &mut [u32],
+    count: usize,
+    lacking: usize,
+) -> bool {
+    if count < lacking {
         return true;
     }
-    if count > out.len() {
+    let room = count - lacking;
+    if room > out.len() || room > 65536 {
         return false;
     }
-    is_refused(flags, words, &mut out[0..count - 1], 5, count)
+    let left = [PATTERN; 65536];
+    lists_as(
+        flags,
+        words,
+        &mut out[0..room],
+        refused(5, count),
+        &left[0..room],
+    )
 }
 
-fn is_listed(flags: usize, words: &[u64], out: &mut [u32], head: &[u8]) -> bool {
-    let answer = from_anf_coeffs(flags, words, out);
-    let Listing::Listed(form) = answer else {
-        return false;
-    };
-    let count = form.count;
-    if count > out.len() {
+fn is_listed(flags: usize, words: &[u64], out: &mut [u32], head: &[u8], masks: &[u8]) -> bool {
+    let room = out.len();
+    let count = pair_at(head, 2) as usize;
+    if count > room || room > 65539 {
         return false;
     }
-    form.constant == byte_at(head, 1)
-        && count == pair_at(head, 2)
-        && checksum(&out[0..count]) == half_at(head, 4)
-        && is_unchanged(&out[count..])
+    let mut left = [PATTERN; 65539];
+    let left = &mut left[0..room];
+    set_masks(&mut left[0..count], masks);
+    let outcome = given(byte_at(head, 1) as usize, count, 0, 0);
+    lists_as(flags, words, out, outcome, left)
 }
 
 // The form that the words begin with; the words after it must be ignored.
-fn agrees(flags: usize, words: &[u64; 1027], head: &[u8]) -> bool {
+fn agrees(flags: usize, words: &[u64; 1027], head: &[u8], masks: &[u8], asked: Asked) -> bool {
     let mut out = [PATTERN; 65539];
-    let settings = sizes::entries(flags);
-    if settings > 65536 {
-        return false;
-    }
-    let out = &mut out[0..settings + 3];
-    is_refused(17, words, out, 1, 0)
-        && is_short_refused(flags, words, out, pair_at(head, 2))
-        && is_listed(flags, words, out, head)
+    let left = [PATTERN; 65539];
+    let room = sizes::entries(flags) + 3;
+    let out = &mut out[0..room];
+    lists_as(asked.flags, words, out, refused(1, 0), &left[0..room])
+        && is_short_refused(flags, words, out, pair_at(head, 2) as usize, asked.lacking)
+        && is_listed(flags, words, out, head, masks)
 }
 
-pub fn is_same(fd: i32, head: &[u8]) -> bool {
+// The rest of a form: its coefficients and its list, each as long as the slice that takes it.
+fn is_same_rest(
+    fd: i32,
+    flags: usize,
+    head: &[u8],
+    bytes: &mut [u8],
+    masks: &mut [u8],
+    asked: Asked,
+) -> bool {
+    if !file::fills(fd, bytes) {
+        return false;
+    }
+    if !file::fills(fd, masks) {
+        return false;
+    }
+    let count = sizes::words(flags);
+    let mut words = [u64::MAX; 1027];
+    set_words(&mut words[0..count], bytes);
+    agrees(flags, &words, head, masks, asked)
+}
+
+pub fn is_same_form(fd: i32, head: &[u8], asked: Asked) -> bool {
     let flags = byte_at(head, 0) as usize;
     let size = sizes::bytes(flags);
-    let count = sizes::words(flags);
-    if size > 8192 {
-        return false;
-    }
-    if count > 1024 {
-        return false;
-    }
     let mut bytes = [0u8; 8192];
-    if !file::fills(fd, &mut bytes[0..size]) {
-        return false;
-    }
-    let mut words = [u64::MAX; 1027];
-    set_words(&mut words[0..count], &bytes);
-    agrees(flags, &words, head)
+    let mut masks = [0u8; 131072];
+    let length = 2 * (pair_at(head, 2) as usize);
+    is_same_rest(
+        fd,
+        flags,
+        head,
+        &mut bytes[0..size],
+        &mut masks[0..length],
+        asked,
+    )
 }

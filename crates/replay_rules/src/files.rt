@@ -1,11 +1,11 @@
 // Reads the recorded files and replays each rule of them. It rests on the replay of one rule.
 // What a file lacks, because it is cut short or damaged, counts as a difference.
 use crate::one_rule;
+use comparison::tally;
+use comparison::tally::Tally;
+use recorded::numbers::byte_at;
+use recorded::numbers::low_byte;
 use replay::file;
-use replay::numbers::byte_at;
-use replay::numbers::low_byte;
-use replay::tally;
-use replay::tally::Tally;
 
 // A rule of small.bin, whose table is the digits of `number`. The file has its answer alone.
 fn is_same_small(fd: i32, flags: usize, number: u64) -> bool {
@@ -37,8 +37,7 @@ fn all_small_tables(fd: i32) -> Tally {
     small_tables(fd, 4, 65536, tally)
 }
 
-pub fn replay_small() {
-    let path = b"small.bin";
+pub fn replay_small(path: &[u8]) {
     let fd = file::open(path);
     file::close(fd, path, b"rules", all_small_tables(fd));
 }
@@ -67,8 +66,7 @@ fn all_samples(fd: i32) -> Tally {
     tally
 }
 
-pub fn replay_samples() {
-    let path = b"samples.bin";
+pub fn replay_samples(path: &[u8]) {
     let fd = file::open(path);
     file::close(fd, path, b"rules", all_samples(fd));
 }

@@ -1,110 +1,119 @@
 // Calls that the library must refuse, with the number and the place that each must give, and every lent entry unchanged.
-// Where several rows of the table of refusals apply, the upper one counts. It rests on the library's two calls.
-use crate::lent;
-use anf_transform::Filled;
-use anf_transform::compute_anf;
-use anf_transform::compute_table;
-use replay::tally;
-use replay::tally::Tally;
-
-fn is_refusal(answer: Filled, number: u64, place: usize) -> bool {
-    match answer {
-        Filled::Entries(_) => false,
-        Filled::Refused(refusal) => refusal.number == number && refusal.place == place,
-    }
-}
-
-fn is_transform_refused(
-    flags: usize,
-    table: &[u64],
-    out: &mut [u64],
-    number: u64,
-    place: usize,
-) -> bool {
-    lent::set_pattern(out);
-    let answer = compute_anf(flags, table, out);
-    is_refusal(answer, number, place) && lent::is_unchanged(out, 0)
-}
-
-fn is_way_back_refused(
-    flags: usize,
-    coefficients: &[u64],
-    out: &mut [u64],
-    number: u64,
-    place: usize,
-) -> bool {
-    lent::set_pattern(out);
-    let answer = compute_table(flags, coefficients, out);
-    is_refusal(answer, number, place) && lent::is_unchanged(out, 0)
-}
+// Where several rows of the table of refusals apply, the upper one counts. The same calls with a wrong number and with a wrong
+// place, and good calls as if they were refused, show that each call is made and compared. It rests on the replay of the two
+// calls.
+use crate::calls::PATTERN;
+use crate::calls::goes_back_to;
+use crate::calls::transforms_to;
+use comparison::outcome::Outcome;
+use comparison::outcome::refused;
+use comparison::tally;
+use comparison::tally::Tally;
+use replay::line;
 
 // The transform of a table of `length` entries into a buffer of `room` words.
-fn transform(length: usize, room: usize, flags: usize, number: u64, place: usize) -> bool {
+fn transform(length: usize, room: usize, flags: usize, expected: Outcome) -> bool {
     let table = [1u64; 65536];
-    let mut out = [0u64; 1024];
-    if length > 65536 {
+    let mut out = [PATTERN; 1024];
+    let left = [PATTERN; 1024];
+    if length > 65536 || room > 1024 {
         return false;
     }
-    if room > 1024 {
-        return false;
-    }
-    is_transform_refused(flags, &table[0..length], &mut out[0..room], number, place)
-}
-
-// The way back from `length` equal coefficient words into a buffer of `room` entries.
-fn way_back(
-    word: u64,
-    length: usize,
-    room: usize,
-    flags: usize,
-    number: u64,
-    place: usize,
-) -> bool {
-    let coefficients = [word; 1024];
-    let mut out = [0u64; 65536];
-    if length > 1024 {
-        return false;
-    }
-    if room > 65536 {
-        return false;
-    }
-    is_way_back_refused(
+    transforms_to(
         flags,
-        &coefficients[0..length],
+        &table[0..length],
         &mut out[0..room],
-        number,
-        place,
+        expected,
+        &left[0..room],
     )
 }
 
-fn transforms(before: Tally) -> Tally {
-    let mut tally = before;
-    tally = tally::counted(tally, transform(65536, 1024, 17, 1, 0));
-    tally = tally::counted(tally, transform(0, 0, 17, 1, 0));
-    tally = tally::counted(tally, transform(0, 1, 0, 2, 0));
-    tally = tally::counted(tally, transform(7, 1, 3, 2, 0));
-    tally = tally::counted(tally, transform(7, 0, 3, 2, 0));
-    tally = tally::counted(tally, transform(65535, 1024, 16, 2, 0));
-    tally = tally::counted(tally, transform(1, 0, 0, 5, 1));
-    tally = tally::counted(tally, transform(128, 1, 7, 5, 2));
-    tally::counted(tally, transform(65536, 1023, 16, 5, 1024))
+// The way back from `length` equal coefficient words into a buffer of `room` entries.
+fn way_back(word: u64, length: usize, room: usize, flags: usize, expected: Outcome) -> bool {
+    let coefficients = [word; 1024];
+    let mut out = [PATTERN; 65536];
+    let left = [PATTERN; 65536];
+    if length > 1024 || room > 65536 {
+        return false;
+    }
+    goes_back_to(
+        flags,
+        &coefficients[0..length],
+        &mut out[0..room],
+        expected,
+        &left[0..room],
+    )
 }
 
-fn ways_back(before: Tally) -> Tally {
+// `number` and `place` are 0, or 1 to make every number, or every place, a wrong one.
+fn transforms(before: Tally, number: u64, place: usize) -> Tally {
     let mut tally = before;
-    tally = tally::counted(tally, way_back(1, 1024, 65536, 17, 1, 0));
-    tally = tally::counted(tally, way_back(1, 0, 0, 17, 1, 0));
-    tally = tally::counted(tally, way_back(1, 0, 1, 0, 3, 0));
-    tally = tally::counted(tally, way_back(1, 1, 128, 7, 3, 0));
-    tally = tally::counted(tally, way_back(1, 1023, 65536, 16, 3, 0));
-    tally = tally::counted(tally, way_back(2, 1, 1, 0, 4, 0));
-    tally = tally::counted(tally, way_back(256, 1, 8, 3, 4, 0));
-    tally = tally::counted(tally, way_back(0x8000_0000_0000_0000, 1, 0, 5, 4, 0));
-    tally = tally::counted(tally, way_back(1, 1, 0, 0, 5, 1));
-    tally = tally::counted(tally, way_back(255, 1, 7, 3, 5, 8));
-    tally::counted(tally, way_back(1, 1024, 65535, 16, 5, 65536))
+    tally = tally::counted(
+        tally,
+        transform(65536, 1024, 17, refused(1 ^ number, place)),
+    );
+    tally = tally::counted(tally, transform(0, 0, 17, refused(1 ^ number, place)));
+    tally = tally::counted(tally, transform(0, 1, 0, refused(2 ^ number, place)));
+    tally = tally::counted(tally, transform(7, 1, 3, refused(2 ^ number, place)));
+    tally = tally::counted(tally, transform(7, 0, 3, refused(2 ^ number, place)));
+    tally = tally::counted(
+        tally,
+        transform(65535, 1024, 16, refused(2 ^ number, place)),
+    );
+    tally = tally::counted(tally, transform(1, 0, 0, refused(5 ^ number, 1 ^ place)));
+    tally = tally::counted(tally, transform(128, 1, 7, refused(5 ^ number, 2 ^ place)));
+    tally::counted(
+        tally,
+        transform(65536, 1023, 16, refused(5 ^ number, 1024 ^ place)),
+    )
+}
+
+fn ways_back(before: Tally, number: u64, place: usize) -> Tally {
+    let mut tally = before;
+    tally = tally::counted(
+        tally,
+        way_back(1, 1024, 65536, 17, refused(1 ^ number, place)),
+    );
+    tally = tally::counted(tally, way_back(1, 0, 0, 17, refused(1 ^ number, place)));
+    tally = tally::counted(tally, way_back(1, 0, 1, 0, refused(3 ^ number, place)));
+    tally = tally::counted(tally, way_back(1, 1, 128, 7, refused(3 ^ number, place)));
+    tally = tally::counted(
+        tally,
+        way_back(1, 1023, 65536, 16, refused(3 ^ number, place)),
+    );
+    tally = tally::counted(tally, way_back(2, 1, 1, 0, refused(4 ^ number, place)));
+    tally = tally::counted(tally, way_back(256, 1, 8, 3, refused(4 ^ number, place)));
+    tally = tally::counted(
+        tally,
+        way_back(0x8000_0000_0000_0000, 1, 0, 5, refused(4 ^ number, place)),
+    );
+    tally = tally::counted(tally, way_back(1, 1, 0, 0, refused(5 ^ number, 1 ^ place)));
+    tally = tally::counted(
+        tally,
+        way_back(255, 1, 7, 3, refused(5 ^ number, 8 ^ place)),
+    );
+    tally::counted(
+        tally,
+        way_back(1, 1024, 65535, 16, refused(5 ^ number, 65536 ^ place)),
+    )
+}
+
+// Good calls. The second of each two has the answer's own numbers, so that only the buffer tells that it is no refusal.
+fn results() -> Tally {
+    let mut tally = tally::none();
+    tally = tally::counted(tally, transform(1, 1, 0, refused(5, 1)));
+    tally = tally::counted(tally, transform(1, 1, 0, refused(0, 1)));
+    tally = tally::counted(tally, way_back(1, 1, 1, 0, refused(5, 1)));
+    tally::counted(tally, way_back(1, 1, 1, 0, refused(0, 1)))
+}
+
+fn all(number: u64, place: usize) -> Tally {
+    ways_back(transforms(tally::none(), number, place), number, place)
 }
 
 pub fn replay() {
-    tally::print(b"refusals", b"cases", ways_back(transforms(tally::none())));
+    line::print(b"refusals", b"cases", all(0, 0));
+    line::print(b"wrong numbers of refusals", b"cases", all(1, 0));
+    line::print(b"wrong places of refusals", b"cases", all(0, 1));
+    line::print(b"refusals of good calls", b"cases", results());
 }

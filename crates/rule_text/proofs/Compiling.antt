@@ -1,5 +1,5 @@
 -- What the compiler's answer for a complete table of up to six flags tells of the page. It rests on the compiler's contract, and on what the compiler writes being
--- printable (Report). Assumes nothing.
+-- printable (Report).
 --   Answered n table after r     == r is the compiler's answer for the table, and after what its 963 bytes of room then hold
 --   never-refused                == the compiler does not refuse
 --   count-told                   == what it wrote is within the room
@@ -21,13 +21,13 @@ use Rattle.rules.specs.Outcome.{gives}
 use Rattle.rules.specs.Text.{report}
 use Rattle.rules.specs.Tree.{cost, write}
 use Rattle.rules.specs.declared.Refusal.{Refusal}
-use Rattle.rules.proofs.Fits.{length-compiled}
-use Rattle.rules.proofs.Outcome.{gives-same}
+use Rattle.laws.proofs.cost.Fits.{length-compiled}
+use Rattle.laws.proofs.calls.Outcome.{gives-same}
 use Rattle.rules.specs.Outcome.{front}
 use Rattle.compiler.specs.Answer.{compilationOf}
 use Rattle.compiler.specs.declared.Compilation.{Compilation}
 use Rattle.compiler.specs.declared.Expression.{Expression}
-use Rattle.rule_text.specs.Parts.{shown, lines, Printable}
+use Rattle.rule_text.specs.inner.Parts.{shown, lines, Printable}
 use Rattle.rule_text.proofs.Report.{report-lines, made-compiled, printable, compile-gives}
 
 front-take : (k : ℕ) (l : List ℕ) → k ≤ length l → take k l ≡ front k l

@@ -1,4 +1,4 @@
--- Document 01's example of the printing program, computed with the definitions, and inputs that are no line of a rule. Assumes nothing.
+-- Document 01's example of the printing program, computed with the definitions, and inputs that are no line of a rule.
 --   example          == "for `0111` it writes exactly" the three lines
 --   other-input      == no input, an empty line, three digits, no newline, a byte after the newline, a byte that is no digit, 65 digits
 use mathlib.Core.List.{[], _∷_, _++_}

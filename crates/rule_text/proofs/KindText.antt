@@ -1,4 +1,4 @@
--- The text of a record by the code's kind of it. It rests on the definition of `kindText`. Assumes nothing.
+-- The text of a record by the code's kind of it. It rests on the definition of `kindText`.
 --   text-constant, text-variable                == a leaf's mark and its payload as a digit
 --   text-and, text-or, text-xor, text-not       == an operator's mark
 --   constant-small, variable-small              == the digit is a byte
@@ -7,20 +7,19 @@ use mathlib.Core.List.{List, [], _∷_}
 use mathlib.Core.Path.{_≡_, sym, ap, subst, _∙_}
 use Prim.Native.Nat.{ℕ, _+_, _<_}
 use native.Mathlib.Omega.{arith}
-use lib.Dec.{eqb}
 use mir.Val.{boolByte}
 use Rattle.rules.specs.Ascii.{ascii}
 use Rattle.rules.specs.Record.{FlagBelow}
 use Rattle.expr.specs.Answers.{kindOf}
 use Rattle.expr.specs.declared.Kind.{Kind}
-use Rattle.expr.proofs.Values.{byte-digit}
-use Rattle.rule_text.specs.Parts.{kindText}
+use Rattle.bits.proofs.Bit.{byte-digit}
+use Rattle.rule_text.specs.inner.Parts.{kindText}
 
 module _ (k : Kind) where
-  pub text-constant : (b : ℕ) → k ≡ Kind.Constant b → kindText (kindOf k) ≡ 67 ∷ 79 ∷ (48 + boolByte (eqb b 1)) ∷ []
+  pub text-constant : (b : Bool) → k ≡ Kind.Constant b → kindText (kindOf k) ≡ 67 ∷ 79 ∷ (48 + boolByte b) ∷ []
   unfolding kindText ascii
   text-constant b e =
-      ap (λ (j : Kind). kindText (kindOf j)) e ∙ ap {B = List ℕ} (λ d. 67 ∷ 79 ∷ (48 + d) ∷ []) (sym (byte-digit (eqb b 1)))
+      ap (λ (j : Kind). kindText (kindOf j)) e ∙ ap {B = List ℕ} (λ d. 67 ∷ 79 ∷ (48 + d) ∷ []) (sym (byte-digit b))
 
   pub text-variable : (i : ℕ) → k ≡ Kind.Variable i → kindText (kindOf k) ≡ 86 ∷ 65 ∷ (48 + i) ∷ []
   unfolding kindText ascii

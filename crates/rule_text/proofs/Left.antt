@@ -1,5 +1,6 @@
--- What the walk that prints an expression's records keeps: the records from its place on are left to print, and what is printed before them is written. It
--- rests on the records of a tree (RecordList), on what the reader answers (rules, RecordAt) and on texts in turn (Put). Assumes nothing.
+-- What the walk that prints an expression's records keeps: the records from its place on are left to print, and what is printed before them is
+-- written. It rests on the records of a tree (RecordList), on what the reader answers (expr, Reader; laws, RecordAt) and on runs of stores (bits,
+-- Stored).
 --   gap-none, gap-some       == nothing before the first record, and a space before every other
 --   after p ks               == the text of the records ks, of which the first begins at byte p
 --   Left                     == what the walk keeps
@@ -18,23 +19,21 @@ use denote.Enum.Declared.{tagOf}
 use Rattle.bits.specs.Range.{Below}
 use Rattle.bits.proofs.Every.{Every}
 use Rattle.rules.specs.Ascii.{ascii}
-use Rattle.rules.specs.Calls.{read}
-use Rattle.rules.specs.Limits.{ruleFlags}
 use Rattle.rules.specs.Machine.{made, WellFormed}
 use Rattle.rules.specs.Outcome.{gives}
 use Rattle.rules.specs.Record.{Kind, FlagBelow, Found, recordAt}
 use Rattle.rules.specs.Text.{records}
 use Rattle.rules.specs.Tree.{Tree}
-use Rattle.rules.proofs.Outcome.{gives-same}
-use Rattle.rules.proofs.RecordAt.{bytesOf, bytesOf-long, drop-past, record-at}
-use Rattle.rules.proofs.WellFormed.{made-is}
-use Rattle.expr.specs.Answers.{readingOf}
+use Rattle.laws.proofs.calls.Outcome.{gives-same}
+use Rattle.laws.proofs.reading.RecordAt.{bytesOf, bytesOf-long, drop-past, record-at}
+use Rattle.laws.proofs.reading.WellFormed.{made-is}
+use Rattle.expr.specs.Answers.{readingOf, stepAt}
 use Rattle.expr.specs.declared.Reading.{Reading}
-use Rattle.expr.proofs.Reader.{Read, read-end, read-refused}
+use Rattle.expr.proofs.Reader.{Read, step-end, step-refused}
 use Rattle.expr.proofs.Reading.{the-type}
-use Rattle.text.specs.Put.{Room, Put}
-use Rattle.text.proofs.Put.{put-none, put-append, put-eq, room-eq, room-first, room-next}
-use Rattle.rule_text.specs.Parts.{gap, kindText, shown}
+use Rattle.bits.specs.Stored.{Room, Stored}
+use Rattle.bits.proofs.Stored.{stored-none, stored-append, stored-eq, room-eq, room-first, room-next}
+use Rattle.rule_text.specs.inner.Parts.{gap, kindText, shown}
 use Rattle.rule_text.proofs.RecordList.{kinds, each, spaced, write-kinds, records-kinds, flags-kinds}
 
 pub gap-none : (p : ℕ) → p ≡ 0 → gap p ≡ []
@@ -66,7 +65,7 @@ pub record Left (n : ℕ) (s text : List ℕ) (at place next : ℕ) (out now : L
   pub bytes : drop place s ≡ each bytesOf rest
   pub flags : Every (FlagBelow n) rest
   pub done : List ℕ
-  pub put : Put done at next out now
+  pub put : Stored done at next out now
   pub whole : done ++ after place rest ≡ text
 
 module _ (n : ℕ) (s : List ℕ) where
@@ -79,7 +78,7 @@ module _ (n : ℕ) (s : List ℕ) where
         bytes = w .bytes ∙ write-kinds t;
         flags = flags-kinds n t (w .flags);
         done = [];
-        put = put-none at out h;
+        put = stored-none at out h;
         whole = ap (drop 1) (sym (records-kinds t));
       }
 
@@ -99,27 +98,28 @@ module _ {n : ℕ} {s text : List ℕ} {at place next : ℕ} {out now : List ℕ
   stands : place < length s → (r : Found) × (recordAt n s place ≡ gives r) × Next r
   stands h = go (w .rest) refl (w .bytes) (w .flags)
     where
-      go : (ks : List Kind) → w .rest ≡ ks → drop place s ≡ each bytesOf ks → Every (FlagBelow n) ks → (r : Found) × (recordAt n s place ≡ gives r) × Next r
+      go : (ks : List Kind) → w .rest ≡ ks → drop place s ≡ each bytesOf ks → Every (FlagBelow n) ks
+          → (r : Found) × (recordAt n s place ≡ gives r) × Next r
       go [] e b f = absurd (omega (arith, length-drop place s, ap length b))
       go (k ∷ ks) e b f =
-          (record { kind = k; next = place + length (bytesOf k) }, record-at n s place k (each bytesOf ks) b (f .0), record { others = ks; is = e; behind = refl })
+          let next = place + length (bytesOf k) in
+          (record { kind = k; next = next }, record-at n s place k (each bytesOf ks) b (f .0), record { others = ks; is = e; behind = refl })
 
   pub left-next : place < length s → (r : Found) → Read n s place r → Next r
   left-next h r f = let d = stands h in subst Next (gives-same (sym (d .1) ∙ f .stands)) (d .2)
 
-  pub left-found : n ≤ ruleFlags → place < length s → (r : Reading) → readingOf r ≡ read n s place
-      → (tagOf the-type r ≡ 1) ⊎ (tagOf the-type r ≡ 2) → ⊥
-  left-found l h (Reading.Found node) e o = ⊎-elim (λ q. omega arith) (λ q. omega arith) o
-  left-found l h Reading.End e o = omega (arith, read-end n s place (sym e))
-  left-found l h (Reading.Refused x) e o =
-      let p = sym (stands h .1) ∙ read-refused n s place (x .number) (x .place) l (sym e) .1 in
+  pub left-found : place < length s → (r : Reading) → readingOf r ≡ stepAt n s place → (tagOf the-type r ≡ 1) ⊎ (tagOf the-type r ≡ 2) → ⊥
+  left-found h (Reading.Found node) e o = ⊎-elim (λ q. omega arith) (λ q. omega arith) o
+  left-found h Reading.End e o = omega (arith, step-end n s place (sym e))
+  left-found h (Reading.Refused x) e o =
+      let p = sym (stands h .1) ∙ step-refused n s place (x .number) (x .place) (sym e) .1 in
       let z : _≡_ {A = ℕ} 0 1 = cc in omega arith
 
-  pub left-end : length s ≤ place → Put text at next out now
+  pub left-end : length s ≤ place → Stored text at next out now
   left-end h = go (w .rest) (w .bytes) (w .whole)
     where
-      go : (ks : List Kind) → drop place s ≡ each bytesOf ks → w .done ++ after place ks ≡ text → Put text at next out now
-      go [] b e = put-eq (sym (append-nil (w .done)) ∙ ap (λ (l : List ℕ). w .done ++ l) (sym (after-none place)) ∙ e) (w .put)
+      go : (ks : List Kind) → drop place s ≡ each bytesOf ks → w .done ++ after place ks ≡ text → Stored text at next out now
+      go [] b e = stored-eq (sym (append-nil (w .done)) ∙ ap (λ (l : List ℕ). w .done ++ l) (sym (after-none place)) ∙ e) (w .put)
       go (k ∷ ks) b e = absurd (omega (arith, bytesOf-long k, length-drop place s, ap length b, length-append (bytesOf k) (each bytesOf ks)))
 
   module _ {r : Found} (d : Next r) where
@@ -138,11 +138,11 @@ module _ {n : ℕ} {s text : List ℕ} {at place next : ℕ} {out now : List ℕ
     pub left-gap : Room text at out → Room (gap place) next now
     left-gap h = room-first (kindText (r .kind)) (room-left h)
 
-    module _ {mid : ℕ} {then : List ℕ} (p : Put (gap place) next mid now then) where
+    module _ {mid : ℕ} {then : List ℕ} (p : Stored (gap place) next mid now then) where
       pub left-kind : Room text at out → Room (kindText (r .kind)) mid then
       left-kind h = room-next (kindText (r .kind)) (room-left h) p
 
-      pub left-step : {end : ℕ} {last : List ℕ} → Put (kindText (r .kind)) mid end then last → Left n s text at (r .next) end out last
+      pub left-step : {end : ℕ} {last : List ℕ} → Stored (kindText (r .kind)) mid end then last → Left n s text at (r .next) end out last
       left-step q = record {
         rest = d .others;
         bytes =
@@ -150,7 +150,7 @@ module _ {n : ℕ} {s text : List ℕ} {at place next : ℕ} {out now : List ℕ
             ∙ drop-past s place (bytesOf (r .kind)) (each bytesOf (d .others)) (w .bytes ∙ ap (each bytesOf) (d .is));
         flags = subst (Every (FlagBelow n)) (d .is) (w .flags) .1;
         done = w .done ++ (gap place ++ kindText (r .kind));
-        put = put-append (w .put) (put-append p q);
+        put = stored-append (w .put) (stored-append p q);
         whole =
             append-assoc (w .done) (gap place ++ kindText (r .kind)) (after (r .next) (d .others))
             ∙ ap (λ (l : List ℕ). w .done ++ l) (sym text-left) ∙ w .whole;

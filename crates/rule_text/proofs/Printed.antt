@@ -1,5 +1,5 @@
 -- What the printing program is to write, by cases: input that is no line of a rule, and input that is. It rests on the definitions of rules' Text and on
--- the flag count of a line's digits (text, FlagCount). Assumes nothing.
+-- the flag count of a line's digits (text, FlagCount).
 --   line-empty, line-long, line-last == no line is empty, and a line ends in a newline
 --   line-digits, line-all            == input that ends in a newline is a line where all before it are digits
 --   printed-other, printed-ragged    == no flag count, or no line: the complaint
@@ -20,7 +20,7 @@ use Rattle.bits.specs.Range.{all}
 use Rattle.bits.proofs.Truth.{and-true-l}
 use Rattle.rules.specs.Ascii.{ascii}
 use Rattle.rules.specs.Text.{flagsOf, isLine, printedAs, printed, report}
-use Rattle.text.specs.Digits.{isDigit, values}
+use Rattle.text.specs.TableDigits.{isDigit, values}
 use Rattle.text.proofs.FlagCount.{flags-none}
 
 flags-over : (d : ℕ) → 64 < d → flagsOf d ≡ none

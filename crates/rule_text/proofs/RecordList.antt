@@ -1,5 +1,5 @@
 -- A tree as the list of its records, in the order in which they are written: its bytes and its printed text are those of the records in turn. It rests on
--- the definitions of `write` and `records`. Assumes nothing.
+-- the definitions of `write` and `records`.
 --   kinds t                      == the records of the tree, postfix
 --   each f ks                    == f of each record, one after another
 --   spaced k                     == a space and the record's text
@@ -17,8 +17,8 @@ use Rattle.rules.specs.Ascii.{ascii}
 use Rattle.rules.specs.Record.{Kind, Constant, Flag, And, Or, Xor, Not, FlagBelow}
 use Rattle.rules.specs.Text.{records}
 use Rattle.rules.specs.Tree.{Tree, CO, VA, AN, OR, XO, NO, size, write, FlagsBelow}
-use Rattle.rules.proofs.RecordAt.{bytesOf}
-use Rattle.rule_text.specs.Parts.{kindText}
+use Rattle.laws.proofs.reading.RecordAt.{bytesOf}
+use Rattle.rule_text.specs.inner.Parts.{kindText}
 
 unfoldable pub kinds : Tree → List Kind
 kinds (CO b) = Constant b ∷ []

@@ -1,5 +1,5 @@
--- The three lines of a rule: they are document 01's report, and they fit a page. It rests on the lengths of numbers (Decimal) and of records (RecordList), and on
--- the limits of what the compiler writes (rules, Fits). Assumes nothing.
+-- The three lines of a rule: they are document 01's report, and they fit a page. It rests on the lengths of numbers (text, Decimal) and of records (RecordList), and on
+-- the limits of what the compiler writes (laws, Fits).
 --   report-lines     == the report of a table is the lines of what the compiler writes for it
 --   length-lines     == the lines have at most 1400 bytes
 --   made-compiled    == what the compiler writes is read back as its tree
@@ -19,10 +19,10 @@ use Rattle.rules.specs.Machine.{made, WellFormed}
 use Rattle.rules.specs.Outcome.{gives}
 use Rattle.rules.specs.Text.{records, report}
 use Rattle.rules.specs.Tree.{cost, write}
-use Rattle.rules.proofs.Fits.{cost-compiled, flags-compiled, raw-compiled, records-compiled, length-compiled}
-use Rattle.rules.proofs.ReadBack.{made-write}
+use Rattle.laws.proofs.cost.Fits.{cost-compiled, flags-compiled, raw-compiled, records-compiled, length-compiled}
+use Rattle.laws.proofs.reading.ReadBack.{made-write}
 use Rattle.text.proofs.Decimal.{length-decimal}
-use Rattle.rule_text.specs.Parts.{shown, firstLine, lastLine, lines, textLimit, Printable}
+use Rattle.rule_text.specs.inner.Parts.{shown, firstLine, lastLine, lines, textLimit, Printable}
 use Rattle.rule_text.proofs.RecordList.{length-records}
 
 pub length-lines : (n : ℕ) (l : List ℕ) (c r : ℕ) → n < 1000 → length l ≤ textLimit → c < 1000 → r < 1000 → length (lines n l c r) ≤ 1400

@@ -4,6 +4,7 @@ mod line;
 mod lines;
 
 use compiler::Compilation;
+use rules::BYTE_LIMIT;
 use text::Page;
 use text::table::Size;
 ghost use mathlib.Core.Bool.{true};
@@ -15,9 +16,9 @@ ghost use Rattle.rules.specs.Ascii.{ascii};
 ghost use Rattle.rules.specs.Limits.{ruleFlags};
 ghost use Rattle.rules.specs.Machine.{made};
 ghost use Rattle.rules.specs.Text.{report, printed};
-ghost use Rattle.text.specs.Digits.{isDigit, values};
+ghost use Rattle.text.specs.TableDigits.{isDigit, values};
 ghost use Rattle.text.specs.Page.{Shows};
-ghost use Rattle.rule_text.specs.Parts.{shown, lines, Printable};
+ghost use Rattle.rule_text.specs.inner.Parts.{shown, lines, Printable};
 
 // The page for input that is no line of a rule.
 fn bad_line() -> Page
@@ -44,7 +45,7 @@ fn table_page(flags: usize, digits: &[u8]) -> Page
     let count = digits.len();
     let mut table = [0u64; 64];
     text::table::entries(digits, &mut table);
-    let mut expression = [0u8; 963];
+    let mut expression = [0u8; BYTE_LIMIT];
     let answer = compiler::build_anf_expr(flags, &table[..count], &mut expression);
     let Compilation::Written(rule) = answer else {
         return bad_line();

@@ -125,14 +125,14 @@ costing n s = parse n s then (λ t. gives (record { cost = cost t; size = size t
 unfoldable pub smaller : Tree → Tree → Bool
 smaller t u = ltb (size t) (size u) || eqb (size t) (size u) && ltb (depth t) (depth u)
 
--- "if n or either expression is refused, an empty part of the first"
-unfoldable pub cheaperOf : List ℕ → List ℕ → Outcome Tree → Outcome Tree → List ℕ
-cheaperOf a b (refuses k p) u = []
-cheaperOf a b (gives t) (refuses k p) = []
-cheaperOf a b (gives t) (gives u) = elim (smaller u t) [ true ↦ b | false ↦ a ]
+-- "if n or either expression is refused, an empty part of the first", which is e; of slices as lists, or as the references that the call answers
+unfoldable pub cheaperOf : {A : Type 0} → A → A → A → Outcome Tree → Outcome Tree → A
+cheaperOf e a b (refuses k p) u = e
+cheaperOf e a b (gives t) (refuses k p) = e
+cheaperOf e a b (gives t) (gives u) = elim (smaller u t) [ true ↦ b | false ↦ a ]
 
 unfoldable pub cheaperOfTwo : ℕ → List ℕ → List ℕ → List ℕ
-cheaperOfTwo n a b = cheaperOf a b (parse n a) (parse n b)
+cheaperOfTwo n a b = cheaperOf [] a b (parse n a) (parse n b)
 
 -- ---- the examiner
 

@@ -16,7 +16,7 @@ recordLimit = 385
 abbrev pub byteLimit : ℕ
 byteLimit = 963
 
--- "only bit 0 of the first 2^n counts"; "coefficient m is bit m mod 64 of word m div 64"
+-- "Coefficients are 64-bit words: coefficient m is bit m mod 64 of word m div 64"
 abbrev pub wordBits : ℕ
 wordBits = 64
 

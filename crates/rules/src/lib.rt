@@ -2,12 +2,15 @@
 // the document's own examples with them. The only code is what every call shares: the limits, and the refusal that an answer can hold. It rests
 // on `bits`.
 
-// Limits: flags of a form (transform, way back, listing) and of a rule (all other calls), and the records of an expression.
+// Limits: flags of a form (transform, way back, listing) and of a rule (all other calls), the records of an expression, and the bytes that always suffice
+// for one that is compiled.
 pub const FORM_FLAGS: usize = 16;
 
 pub const RULE_FLAGS: usize = 6;
 
 pub const RECORD_LIMIT: usize = 385;
+
+pub const BYTE_LIMIT: usize = 963;
 
 // The numbers of the refusals, in the order of document 01's table.
 pub const TOO_MANY_FLAGS: u64 = 1;

@@ -1,8 +1,9 @@
--- Numbers in base ten: the last digit after the digits of the tens. It rests on the step of the recursion that defines them (bits, Fixed). Assumes nothing.
+-- Numbers in base ten: the last digit after the digits of the tens. It rests on the step of the recursion that defines them (bits, Fixed).
 --   decimal-one, decimal-more    == the digits of a number below ten, and of another
 --   length-decimal               == a number below a power of ten has at most as many digits as the power says, where that is one or more
 --   length-word                  == a number of 64 bits has at most twenty digits
---   room-number, number-short    == so there is room for a text and such a number, and where they end
+--   room-number, room-numbers    == so there is room for a text and such a number, and for two of them
+--   number-short                 == and where they end
 use mathlib.Core.Bool.{Bool, true, false}
 use mathlib.Core.List.{List, [], _∷_, _++_}
 use mathlib.Core.Path.{_≡_, ap, _∙_}
@@ -15,7 +16,7 @@ use borrow.Author.Tests.{lt-ltb, le-ltb}
 use Rattle.bits.specs.Fixed.{below}
 use Rattle.bits.proofs.Fixed.{below-less, fixed-step}
 use Rattle.rules.specs.Text.{decimalTurn, decimal}
-use Rattle.text.specs.Put.{Room, Put}
+use Rattle.bits.specs.Stored.{Room, Stored}
 
 -- the digits by whether the number is below ten
 abbrev turn : (ℕ → List ℕ) → ℕ → Bool → List ℕ
@@ -55,5 +56,10 @@ length-word k h = length-decimal 19 k (omega arith)
 pub room-number : (label : List ℕ) (k at : ℕ) (out : List ℕ) → k < 2 ^ 64 → at + length label + 20 ≤ length out → Room (label ++ decimal k) at out
 room-number label k at out h r = omega (arith, length-append label (decimal k), length-word k h)
 
-pub number-short : (label : List ℕ) (k : ℕ) {a b : ℕ} {out after : List ℕ} → k < 2 ^ 64 → Put (label ++ decimal k) a b out after → b ≤ a + length label + 20
+pub room-numbers : (label : List ℕ) (k : ℕ) (second : List ℕ) (j at : ℕ) (out : List ℕ) → k < 2 ^ 64 → j < 2 ^ 64
+    → at + length label + length second + 40 ≤ length out → Room (label ++ decimal k ++ (second ++ decimal j)) at out
+room-numbers label k second j at out h g r =
+    omega (arith, length-append (label ++ decimal k) (second ++ decimal j), length-append label (decimal k), length-append second (decimal j), length-word k h, length-word j g)
+
+pub number-short : (label : List ℕ) (k : ℕ) {a b : ℕ} {out after : List ℕ} → k < 2 ^ 64 → Stored (label ++ decimal k) a b out after → b ≤ a + length label + 20
 number-short label k h p = omega (arith, length-append label (decimal k), length-word k h)

@@ -1,4 +1,4 @@
--- The flag count of a table's digits. It rests on the definition of `flagsOf` (rules, Text). Assumes nothing.
+-- The flag count of a table's digits. It rests on the definition of `flagsOf` (rules, Text).
 --   flags-some           == so many digits with a flag count n are 2^n, and n is at most 6
 --   flags-none           == a number that is no power of two up to 64 has no flag count
 --   flags-most           == 2^n is at most 64 where n is at most 6

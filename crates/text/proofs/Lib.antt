@@ -1,5 +1,5 @@
-pub mod Put
 pub mod Shown
 pub mod Decimal
-pub mod Digits
+pub mod TableDigits
 pub mod FlagCount
+pub mod Injective

@@ -1,4 +1,4 @@
--- Pages that show a text. It rests on the laws of texts in a buffer (Put). Assumes nothing.
+-- Pages that show a text. It rests on the laws of runs in a buffer (bits, Stored).
 --   shows-put        == a text written at the front of 1400 bytes is a page
 --   shows-eq         == an equal text
 --   shows-told       == the parts of the promise
@@ -8,12 +8,12 @@ use Prim.Native.Nat.{ℕ, _≤_}
 use native.Mathlib.Omega.{arith}
 use lib.ListN.{length, take}
 use Rattle.text.specs.Page.{Shows}
-use Rattle.text.specs.Put.{Put}
+use Rattle.bits.specs.Stored.{Stored}
 use Rattle.text.specs.declared.Page.{Page}
-use Rattle.text.proofs.Put.{put-length, put-front}
+use Rattle.bits.proofs.Stored.{stored-length, stored-front}
 
-pub shows-put : {l : List ℕ} {b : ℕ} {out after : List ℕ} → length out ≡ 1400 → Put l 0 b out after → Shows l (record { bytes = after; count = b })
-shows-put e p = record { within = omega arith; size = put-length p ∙ e; text = put-front p }
+pub shows-put : {l : List ℕ} {b : ℕ} {out after : List ℕ} → length out ≡ 1400 → Stored l 0 b out after → Shows l (record { bytes = after; count = b })
+shows-put e p = record { within = omega arith; size = stored-length p ∙ e; text = stored-front p }
 
 module _ {l : List ℕ} {page : Page} where
   pub shows-eq : {m : List ℕ} → l ≡ m → Shows l page → Shows m page

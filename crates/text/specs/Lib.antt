@@ -1,3 +1,2 @@
-pub mod Put
 pub mod Page
-pub mod Digits
+pub mod TableDigits

@@ -7,7 +7,8 @@ ghost use Prim.Native.Nat.{_≤_};
 ghost use lib.ListN.{length};
 ghost use Rattle.text.specs.Page.{Shows};
 
-// The output of a program: the first `count` bytes.
+// The output of a program: the first `count` bytes. A page is long enough for the three lines of any rule: line two has at most 1,347 bytes (`textLimit` of
+// `rule_text`).
 pub struct Page {
     pub bytes: [u8; 1400],
     pub count: usize,

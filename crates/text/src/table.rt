@@ -6,7 +6,7 @@ ghost use lib.ListN.{length};
 ghost use lib.Seq.{sets};
 ghost use Rattle.bits.specs.Range.{all};
 ghost use Rattle.rules.specs.Text.{flagsOf};
-ghost use Rattle.text.specs.Digits.{isDigit, sizeOf, values};
+ghost use Rattle.text.specs.TableDigits.{isDigit, sizeOf, values};
 
 // The flag count of a line, where the number of its digits has one.
 pub enum Size {

@@ -1,6 +1,6 @@
 -- `anf_cleanup::cleanup`, `partial_or`, `common_cube`, `best_cube` and `try_cube` meet their contracts, as one cycle of calls: every call of the
 -- cleanup is on a form of fewer total literals. Each member's needs are answered in a file of its own below this one, over the measures and contracts
--- of Claims. Assumes nothing.
+-- of Claims.
 mod Claims
 mod BestCube
 mod Cleanup

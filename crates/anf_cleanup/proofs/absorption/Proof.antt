@@ -1,5 +1,5 @@
 -- `anf_cleanup::absorption` meets its contract: rule 4 has a candidate just where the form has two monomials and the first is a subset of the second
--- (Rules), and then its cost is that of both products and of NO and AN, and 2 more with constant 1 (Plans). Assumes nothing.
+-- (Rules), and then its cost is that of both products and of NO and AN, and 2 more with constant 1 (Plans).
 use mathlib.Core.Path.{_≡_, refl, _∙_}
 use Prim.Native.Nat.{_+_, _*_}
 use native.Mathlib.Omega.{arith}
@@ -29,19 +29,21 @@ returns-2 : tie.Need-returns-2
 returns-2 c = improved-none _ _ _ (absorption-apart _ _ _ (c .before .pair .ensures) (c .if2 .taken))
 
 product-cost-requires : tie.Need-product-cost-requires
-product-cost-requires c κs = omega (arith, pair-bounds (c .before .before .before .before .args .form .word) _ _ (c .before .pair .ensures))
+product-cost-requires c κs = omega (arith, pair-bounds (c .before .before .before .before .args .form) _ _ (c .before .pair .ensures))
 
 sub-product-cost : tie.Need-sub-product-cost
-sub-product-cost c = omega (arith, pair-bounds (c .before .before .before .before .before .args .form .word) _ _ (c .before .before .pair .ensures))
+sub-product-cost c = omega (arith, pair-bounds (c .before .before .before .before .before .args .form) _ _ (c .before .before .pair .ensures))
 
 product-cost-requires-2 : tie.Need-product-cost-requires-2
-product-cost-requires-2 c κs = omega (arith, pair-bounds (c .before .before .before .before .before .args .form .word) _ _ (c .before .before .pair .ensures))
+product-cost-requires-2 c κs =
+    omega (arith, pair-bounds (c .before .before .before .before .before .args .form) _ _ (c .before .before .pair .ensures))
 
 add-cost : tie.Need-add-cost
-add-cost c = omega (arith, pair-limit (c .before .before .before .before .before .before .args .form .word) _ _ (c .before .before .before .pair .ensures))
+add-cost c = omega (arith, pair-limit (c .before .before .before .before .before .before .args .form) _ _ (c .before .before .before .pair .ensures))
 
 add-cost-2 : tie.Need-add-cost-2
-add-cost-2 c = omega (arith, pair-limit (c .before .before .before .before .before .before .args .form .word) _ _ (c .before .before .before .pair .ensures))
+add-cost-2 c =
+    omega (arith, pair-limit (c .before .before .before .before .before .before .args .form) _ _ (c .before .before .before .pair .ensures))
 
 constant-requires : tie.Need-constant-requires
 constant-requires c κs = search needs
@@ -53,7 +55,7 @@ add-cost-3 : tie.Need-add-cost-3
 add-cost-3 c =
     let paired = c .before .before .before .before in
     let form = paired .before .before .before .args .form in
-    omega (arith, digit-le (constant (masks form)), pair-limit (form .word) _ _ (paired .pair .ensures))
+    omega (arith, digit-le (constant (masks form)), pair-limit form _ _ (paired .pair .ensures))
 
 candidate : (c : tie.After-constant)
     → (let second = c .before in

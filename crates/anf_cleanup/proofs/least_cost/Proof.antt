@@ -1,16 +1,16 @@
--- `anf_cleanup::least_cost` meets its contract, which names the same sum: a form of two masks or more has a flag, and in one word all its flags are below
--- 64 (Bounds). Assumes nothing.
+-- `anf_cleanup::least_cost` meets its contract, which names the same sum: a form of two masks or more has a flag, and all its flags are below the
+-- count of masks (Bounds).
 use mathlib.Core.Path.{ap}
 use Prim.Native.Nat.{ℕ}
 use native.Mathlib.Omega.{arith}
 use borrow.Author.Needs.{needs}
 use Rattle.bits.proofs.Bit.{digit-le}
-use Rattle.bits.proofs.Word.{ascending-places}
 use Rattle.rules.specs.Form.{orChain}
 use Rattle.rules.specs.Monomial.{constant}
 use Rattle.rules.specs.Tree.{cost}
 use Rattle.form.specs.Masks.{masks}
-use Rattle.anf_cleanup.specs.Plan.{least}
+use Rattle.form.proofs.Masks.{ascending-masks}
+use Rattle.anf_cleanup.specs.Inner.{least}
 use Rattle.anf_cleanup.proofs.Bounds.{union-some, flags-below, chain-limit}
 use Rattle.anf_cleanup.proofs.least_cost.Statement.{statement}
 use Rattle.anf_cleanup.proofs.least_cost.Tie as tie
@@ -20,8 +20,8 @@ flags-requires c κs = search needs
 
 chain-cost-requires : tie.Need-chain-cost-requires
 chain-cost-requires c κs =
-    let word = c .before .args .inner .word in
-    omega (arith, c .flags .ensures, flags-below word, union-some (masks (c .before .args .inner)) (ascending-places 64 word) (c .before .pre))
+    let inner = c .before .args .inner in
+    omega (arith, c .flags .ensures, flags-below inner, union-some (masks inner) (ascending-masks inner) (c .before .pre))
 
 constant-requires : tie.Need-constant-requires
 constant-requires c κs = search needs
@@ -38,7 +38,7 @@ add-result c =
       c .constant .ensures,
       c .before .chain-cost .ensures,
       digit-le (constant (masks inner)),
-      chain-limit (flags .flags .result) (omega (arith, flags .flags .ensures, flags-below (inner .word))),
+      chain-limit (flags .flags .result) (omega (arith, flags .flags .ensures, flags-below inner)),
     )
 
 returns : tie.Need-returns

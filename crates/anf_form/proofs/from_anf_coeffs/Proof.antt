@@ -1,5 +1,5 @@
--- `anf_form::from_anf_coeffs` meets its contract: row by row (rules, Checked), and then what the counting and the listing of the words' masks ensure is
--- what listing tells (Told). Assumes nothing.
+-- `anf_form::from_anf_coeffs` meets its contract: row by row (laws, Checked), and then what the counting and the listing of the words' masks ensure
+-- is what listing tells (Listed).
 use mathlib.Core.List.{List}
 use mathlib.Core.Path.{_≡_, sym, _∙_}
 use Prim.Native.Nat.{ℕ, _+_, _-_}
@@ -10,12 +10,12 @@ use Rattle.bits.specs.Bit.{digit}
 use Rattle.rules.specs.Calls.{listing}
 use Rattle.rules.specs.Coefficient.{packed}
 use Rattle.rules.specs.Monomial.{monomials, ordered}
-use Rattle.rules.proofs.Checked.{coefficients-flags, coefficients-short, coefficients-stray}
-use Rattle.rules.proofs.Held.{wordCount-most}
-use Rattle.rules.proofs.Ordered.{length-ordered}
-use Rattle.rules.proofs.Packed.{wordCount-pos}
-use Rattle.anf_form.specs.Degree.{held}
-use Rattle.anf_form.proofs.Told.{Passed, told-refusal, told-short, told-listing, masks-below, masks-count}
+use Rattle.laws.proofs.calls.Checked.{coefficients-flags, coefficients-short, coefficients-stray}
+use Rattle.anf_form.proofs.Held.{wordCount-most}
+use Rattle.laws.proofs.form.Ordered.{length-ordered}
+use Rattle.laws.proofs.transform.Packed.{wordCount-pos}
+use Rattle.anf_form.specs.Inner.{held}
+use Rattle.anf_form.proofs.Listed.{Passed, told-refusal, told-short, told-listing, masks-below, masks-count}
 use Rattle.anf_form.proofs.from_anf_coeffs.Statement.{statement}
 use Rattle.anf_form.proofs.from_anf_coeffs.Tie as tie
 
@@ -39,10 +39,16 @@ module _ (c : tie.Else3) where
   }
 
 module _ (c : tie.After-count) where
-  total : length (ordered (monomials (held (k (c .before .before)) (ws (c .before .before))))) + digit (packed (ws (c .before .before)) 0) ≡ c .count .result
-  total = masks-count _ _ _ (passed (c .before .before)) ∙ sym (c .count .ensures)
+  abbrev past : tie.Else3
+  past = c .before .before
 
-  count : c .count .result - c .before .get .result + digit (packed (ws (c .before .before)) 0) ≡ length (held (k (c .before .before)) (ws (c .before .before)))
+  abbrev masks : List ℕ
+  masks = held (k past) (ws past)
+
+  total : length (ordered (monomials masks)) + digit (packed (ws past) 0) ≡ c .count .result
+  total = masks-count _ _ _ (passed past) ∙ sym (c .count .ensures)
+
+  count : c .count .result - c .before .get .result + digit (packed (ws past) 0) ≡ length masks
   count = omega (arith, total)
 
 returns : tie.Need-returns
@@ -84,8 +90,11 @@ returns-4 c = told-short _ _ _ (passed (c .before .before .before)) _ _ (count (
 
 list-requires : tie.Need-list-requires
 list-requires c κs =
-    let p = passed (c .before .before .before .before) in
-    (omega (arith, wordCount-most _ (p .few)), (masks-below _ _ _ p, omega (arith, total (c .before .before), length-ordered (monomials (held (k (c .before .before .before .before)) (ws (c .before .before .before .before)))))))
+    let counting = c .before .before in
+    let p = passed (past counting) in (
+      omega (arith, wordCount-most _ (p .few)),
+      (masks-below _ _ _ p, omega (arith, total counting, length-ordered (monomials (masks counting)))),
+    )
 
 same-length : tie.Need-same-length
 same-length c = search needs
@@ -93,7 +102,8 @@ same-length c = search needs
 returns-5 : tie.Need-returns-5
 returns-5 c =
     let counting = c .before .before .before .before .before in
-    told-listing _ _ _ (passed (counting .before .before)) _ _ (count counting) _ _ (counting .before .get .ensures) (omega arith) (c .before .before .list .ensures)
+    told-listing _ _ _ (passed (counting .before .before)) _ _ (count counting) _ _ (counting .before .get .ensures) (omega arith)
+    (c .before .before .list .ensures)
 
 pub from-anf-coeffs-spec : {M : Type 1} → statement M
 from-anf-coeffs-spec =

@@ -1,5 +1,4 @@
 -- `anf_transform::transform_back` meets its contract: the copied words come to hold the values as bits, and the entries that they give way to cover them.
--- Assumes nothing.
 use mathlib.Core.List.{List, _++_, map}
 use mathlib.Core.Path.{_≡_, sym, ap, _∙_}
 use Prim.Native.Nat.{ℕ, _^_, _≤_, _<_}
@@ -10,7 +9,7 @@ use lib.Seq.{sets, length-take-le}
 use Rattle.bits.specs.Bit.{digit}
 use Rattle.bits.specs.Range.{upto}
 use Rattle.rules.specs.Coefficient.{coefficient, wordCount, packed}
-use Rattle.rules.proofs.Mobius.{coefficient-ext}
+use Rattle.laws.proofs.transform.Mobius.{coefficient-ext}
 use Rattle.bits.proofs.Tabulated.{length-map-upto}
 use Rattle.packed_anf.proofs.Room.{wordCount-le}
 use Rattle.bits.proofs.Stores.{sets-over}

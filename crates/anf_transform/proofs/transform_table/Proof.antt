@@ -1,5 +1,5 @@
 -- `anf_transform::transform_table` meets its contract: the packed table's words come to hold its coefficients, and where the one word is not full its
--- stray bits are cut off. Assumes nothing.
+-- stray bits are cut off.
 use mathlib.Core.List.{List}
 use mathlib.Core.Path.{_≡_, sym, ap, _∙_}
 use Prim.Native.Nat.{ℕ, _^_, _<_}
@@ -8,8 +8,8 @@ use borrow.Author.Needs.{needs}
 use lib.ListN.{set, length-set}
 use Rattle.rules.specs.Coefficient.{coefficient, packed}
 use Rattle.rules.specs.Table.{entry}
-use Rattle.rules.proofs.Mobius.{coefficient-ext}
-use Rattle.rules.proofs.Packed.{wordCount-pos, packed-words}
+use Rattle.laws.proofs.transform.Mobius.{coefficient-ext}
+use Rattle.laws.proofs.transform.Packed.{wordCount-pos, packed-words}
 use Rattle.anf_transform.proofs.Words.{full-words, cut-word}
 use Rattle.anf_transform.proofs.transform_table.Statement.{statement}
 use Rattle.anf_transform.proofs.transform_table.Tie as tie

@@ -1,13 +1,13 @@
 -- `anf_transform::transform_words` meets its contract: `inside` leaves the XOR over subsets for the six lowest flags, which is all that six flags or
--- fewer need, and `between` adds the others. Assumes nothing.
+-- fewer need, and `between` adds the others.
 use mathlib.Core.Path.{_≡_, ap, _∙_}
 use Prim.Native.Nat.{_+_, _-_}
 use native.Mathlib.Nat.{le-refl}
 use native.Mathlib.Omega.{arith}
 use borrow.Author.Needs.{needs}
 use Rattle.rules.specs.Coefficient.{wordCount, packed}
-use Rattle.rules.proofs.Packed.{wordCount-large}
-use Rattle.anf_transform.specs.Flag.{lowest, Holds}
+use Rattle.laws.proofs.transform.Packed.{wordCount-large}
+use Rattle.anf_transform.specs.inner.Flag.{lowest, Holds}
 use Rattle.anf_transform.proofs.Flag.{holds-coefficient}
 use Rattle.anf_transform.proofs.InWord.{holds-inside}
 use Rattle.anf_transform.proofs.transform_words.Statement.{statement}

@@ -1,4 +1,4 @@
--- `bench_calls::bench_compile` meets its contract: each arm names the answer, and the compiler's promise says what it means. Assumes nothing.
+-- `bench_calls::bench_compile` meets its contract: each arm names the answer, and the compiler's promise says what it means.
 use mathlib.Core.Path.{ap, sym, _∙_}
 use lib.ListN.{getD}
 use Rattle.bits.proofs.Tabulated.{length-map-upto}

@@ -1,4 +1,4 @@
--- `bench_calls::bench_costing` meets its contract: each arm names the answer, and the call's promise says what it means. Assumes nothing.
+-- `bench_calls::bench_costing` meets its contract: each arm names the answer, and the call's promise says what it means.
 use mathlib.Core.Path.{ap, sym, _∙_}
 use Rattle.expr_cost.specs.Answers.{costingOf}
 use Rattle.expr_cost.specs.declared.Costing.{Costing}

@@ -1,7 +1,7 @@
--- `bench_calls::bench_evaluate` meets its contract: each arm names the answer, and the call's promise says what it means. Assumes nothing.
+-- `bench_calls::bench_evaluate` meets its contract: each arm names the answer, and the call's promise says what it means.
 use mathlib.Core.Path.{ap, sym, _∙_}
-use Rattle.expr.specs.Values.{evaluationOf}
-use Rattle.expr.specs.declared.evaluation.Evaluation.{Evaluation}
+use Rattle.evaluation.specs.Values.{evaluationOf}
+use Rattle.evaluation.specs.declared.Evaluation.{Evaluation}
 use Rattle.rules.specs.Console.{number}
 use borrow.Author.Needs.{needs}
 use Rattle.bench_calls.proofs.bench_evaluate.Statement.{statement}

@@ -1,4 +1,4 @@
--- `bench_calls::bench_examine` meets its contract: each arm names the answer, and the call's promise says what it means. Assumes nothing.
+-- `bench_calls::bench_examine` meets its contract: each arm names the answer, and the call's promise says what it means.
 use mathlib.Core.Path.{ap, sym, _∙_}
 use Rattle.examiner.specs.Answer.{examinationOf}
 use Rattle.examiner.specs.declared.Examination.{Examination}

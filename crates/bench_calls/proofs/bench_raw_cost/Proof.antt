@@ -1,4 +1,4 @@
--- `bench_calls::bench_raw_cost` meets its contract: each arm names the answer, and the call's promise says what it means. Assumes nothing.
+-- `bench_calls::bench_raw_cost` meets its contract: each arm names the answer, and the call's promise says what it means.
 use mathlib.Core.Path.{ap, sym, _∙_}
 use Rattle.anf_form.specs.Answers.{rawCostOf}
 use Rattle.anf_form.specs.declared.RawCost.{RawCost}

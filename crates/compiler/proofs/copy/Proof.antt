@@ -1,5 +1,5 @@
 -- `compiler::copy` meets its contract. The loop's invariant: the first i bytes stand at the front of the buffer (Copied). The measure is what is left of
--- the count. Assumes nothing.
+-- the count.
 use Prim.Native.Nat.{_-_, _≤_}
 use native.Mathlib.Omega.{arith}
 use mathlib.Core.Path.{_≡_, ap, _∙_}

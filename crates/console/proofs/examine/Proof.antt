@@ -1,17 +1,13 @@
--- `console::examine` meets its contract: rows 1 and 2 (rules, Checked) on the table's entries (Entries), and then the word that holds their bits is
--- examined (examiner, Examined). Assumes nothing.
-use mathlib.Core.Path.{sym, ap, _∙_}
-use Prim.Native.Nat.{ℕ, _^_}
+-- `console::examine` meets its contract: rows 1 and 2 (laws, Checked) on the table's entries (table, Entries), and then the table by value is
+-- examined (examiner, Examined).
+use mathlib.Core.Path.{sym, _∙_}
 use native.Mathlib.Omega.{arith}
 use denote.Ref.{now}
-use Rattle.bits.specs.Bit.{bit}
-use Rattle.bits.proofs.Word.{bit-word-keep}
 use Rattle.rules.specs.Console.{entries}
 use Rattle.rules.specs.Limits.{ruleFlags}
-use Rattle.rules.specs.Table.{entry}
-use Rattle.rules.proofs.Checked.{table-flags, table-short, table-complete}
-use Rattle.examiner.proofs.Examined.{examine-bits, examineBits-ext}
-use Rattle.console.proofs.Entries.{length-entries}
+use Rattle.laws.proofs.calls.Checked.{table-flags, table-short}
+use Rattle.table.proofs.Entries.{length-entries}
+use Rattle.examiner.proofs.Examined.{examine-truth, examine-table}
 use borrow.Author.Needs.{needs}
 use Rattle.console.proofs.examine.Statement.{statement}
 use Rattle.console.proofs.examine.Tie as tie
@@ -19,7 +15,8 @@ use Rattle.console.proofs.examine.Tie as tie
 returns : tie.Need-returns
 returns c =
     let a = c .before .before .before .args in
-    sym (examine-bits (a .flags) (entries (now (a .table))) (now (a .bytes)) ∙ table-flags ruleFlags (a .flags) (entries (now (a .table))) _ (c .if1 .taken))
+    let t = entries (now (a .table)) in
+    sym (examine-truth (a .flags) t (now (a .bytes)) ∙ table-flags ruleFlags (a .flags) t _ (c .if1 .taken))
 
 setting-count-requires : tie.Need-setting-count-requires
 setting-count-requires c κs = search needs
@@ -28,25 +25,23 @@ returns-2 : tie.Need-returns-2
 returns-2 c =
     let a = c .before .before .before .before .before .args in
     let t = now (a .table) in
-    sym (examine-bits (a .flags) (entries t) (now (a .bytes))
+    sym (examine-truth (a .flags) (entries t) (now (a .bytes))
     ∙ table-short ruleFlags (a .flags) (entries t) _ (omega arith) (omega (arith, length-entries t)))
 
-table-word-requires : tie.Need-table-word-requires
-table-word-requires c κs = search needs
+of-bytes-requires : tie.Need-of-bytes-requires
+of-bytes-requires c κs = search needs
 
-examine-word-requires : tie.Need-examine-word-requires
-examine-word-requires c κs = search needs
+examine-table-requires : tie.Need-examine-table-requires
+examine-table-requires c κs = search needs
 
 returns-3 : tie.Need-returns-3
 returns-3 c =
-    let a = c .before .before .before .before .before .before .before .args in
-    let n = a .flags in
+    let made = c .before in
+    let a = made .before .before .before .before .before .before .args in
     let t = now (a .table) in
-    let f = entry (entries t) in
-    c .examine-word .ensures
-    ∙ sym (examine-bits n (entries t) (now (a .bytes)) ∙ table-complete ruleFlags n (entries t) _ (omega arith) (omega (arith, length-entries t))
-    ∙ examineBits-ext n f (bit (c .before .table-word .result)) (now (a .bytes))
-    (λ at h. sym (ap (λ (w : ℕ). bit w at) (c .before .table-word .ensures) ∙ bit-word-keep (2 ^ n) f at h)))
+    c .examine-table .ensures
+    ∙ examine-table (a .flags) (omega arith) (entries t) (now (a .bytes)) (omega (arith, length-entries t)) (made .of-bytes .result)
+    (made .of-bytes .ensures)
 
 pub examine-spec : {M : Type 1} → statement M
 examine-spec =
@@ -55,6 +50,6 @@ examine-spec =
     returns
     setting-count-requires
     returns-2
-    table-word-requires
-    examine-word-requires
+    of-bytes-requires
+    examine-table-requires
     returns-3)

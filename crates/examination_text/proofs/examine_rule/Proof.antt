@@ -1,4 +1,4 @@
--- `examination_text::examine_rule` meets its contract: each of its answers is one law of Input. Assumes nothing.
+-- `examination_text::examine_rule` meets its contract: each of its answers is one law of Input.
 use mathlib.Core.List.{List}
 use mathlib.Core.Path.{sym, _∙_}
 use Prim.Native.Nat.{ℕ}

@@ -1,4 +1,4 @@
--- `examination_text::lines_page` meets its contract: each of its three answers is one law of Input. Assumes nothing.
+-- `examination_text::lines_page` meets its contract: each of its three answers is one law of Input.
 use mathlib.Core.Bool.{true}
 use mathlib.Core.Option.{some}
 use mathlib.Core.Path.{_≡_, sym, ap, _∙_}
@@ -7,7 +7,7 @@ use borrow.Author.Tests.{not-true, not-false}
 use borrow.Author.Needs.{needs}
 use Rattle.bits.specs.Range.{all}
 use Rattle.rules.specs.Text.{flagsOf}
-use Rattle.text.specs.Digits.{isDigit, sizeOf}
+use Rattle.text.specs.TableDigits.{isDigit, sizeOf}
 use Rattle.text.proofs.FlagCount.{flags-some}
 use Rattle.text.proofs.Shown.{shows-eq}
 use Rattle.examination_text.proofs.Input.{table-none, table-ragged, table-rule}

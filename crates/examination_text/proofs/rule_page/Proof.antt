@@ -1,5 +1,5 @@
 -- `examination_text::rule_page` meets its contract: the table's entries are the digits' values and the bytes those of the records, so the verdict on them is the
--- page. Assumes nothing.
+-- page.
 use mathlib.Core.Bool.{true}
 use mathlib.Core.List.{List, _++_}
 use mathlib.Core.Path.{_≡_, sym, ap₂, _∙_}
@@ -12,13 +12,13 @@ use borrow.Author.Needs.{needs}
 use Rattle.bits.specs.Range.{all}
 use Rattle.rules.specs.Ascii.{ascii}
 use Rattle.rules.specs.Calls.{examine}
-use Rattle.text.specs.Digits.{values}
-use Rattle.text.proofs.Digits.{entries-front}
+use Rattle.text.specs.TableDigits.{values}
+use Rattle.text.proofs.TableDigits.{entries-front}
 use Rattle.text.proofs.FlagCount.{flags-most}
-use Rattle.text.proofs.Put.{put-length, put-front}
+use Rattle.bits.proofs.Stored.{stored-length, stored-front}
 use Rattle.text.proofs.Shown.{shows-eq}
 use Rattle.examination_text.specs.Notation.{recordTexts, isRecord}
-use Rattle.examination_text.specs.Words.{words}
+use Rattle.examination_text.specs.Verdict.{words}
 use Rattle.examination_text.proofs.Input.{rule-none, rule-verdict}
 use Rattle.examination_text.proofs.rule_page.Statement.{statement}
 use Rattle.examination_text.proofs.rule_page.Tie as tie
@@ -82,7 +82,7 @@ array-share-prefix-bytes c = search needs
 slice-aggregate-verdict-page-2 : tie.Need-slice-aggregate-verdict-page-2
 slice-aggregate-verdict-page-2 c =
     let b = c .before .before .before in
-    sym (length-take-le _ (b .put-rule .last .1 .0) (omega (arith, b .put-rule .ensures .within, put-length (b .put-rule .ensures))))
+    sym (length-take-le _ (b .put-rule .last .1 .0) (omega (arith, b .put-rule .ensures .within, stored-length (b .put-rule .ensures))))
 
 verdict-page-requires : tie.Need-verdict-page-requires
 verdict-page-requires c κs =
@@ -98,7 +98,7 @@ returns-2 c =
     let s = i .before .before .before .before in
     let ts = recordTexts (s .args .line .now) in
     shows-eq
-    (ap₂ (λ (table e : List ℕ). words (s .args .flags) table ts (examine (s .args .flags) table e) ++ ascii "\n") (front t) (put-front (b .put-rule .ensures))
+    (ap₂ (λ (table e : List ℕ). words (s .args .flags) table ts (examine (s .args .flags) table e) ++ ascii "\n") (front t) (stored-front (b .put-rule .ensures))
     ∙ sym (rule-verdict (s .args .flags) (values (s .args .digits .now)) ts (good i))) (c .verdict-page .ensures)
 
 pub rule-page-spec : {M : Type 1} → statement M

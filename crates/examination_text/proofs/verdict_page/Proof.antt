@@ -1,4 +1,4 @@
--- `examination_text::verdict_page` meets its contract: the words of the examiner's answer and a newline are the page. Assumes nothing.
+-- `examination_text::verdict_page` meets its contract: the words of the examiner's answer and a newline are the page.
 use mathlib.Core.List.{List}
 use mathlib.Core.Path.{_≡_, refl, sym, ap, _∙_}
 use Prim.Native.Nat.{ℕ}
@@ -9,10 +9,10 @@ use borrow.Author.Needs.{needs}
 use Rattle.rules.specs.Ascii.{ascii}
 use Rattle.rules.specs.Calls.{examine}
 use Rattle.rules.specs.Outcome.{Outcome}
-use Rattle.text.proofs.Put.{put-append, put-eq, put-length, put-front}
+use Rattle.bits.proofs.Stored.{stored-append, stored-eq, stored-length, stored-front}
 use Rattle.text.proofs.Shown.{shows-put}
 use Rattle.examination_text.specs.Notation.{recordTexts}
-use Rattle.examination_text.specs.Words.{words}
+use Rattle.examination_text.specs.Verdict.{words}
 use Rattle.examination_text.proofs.verdict_page.Statement.{statement}
 use Rattle.examination_text.proofs.verdict_page.Tie as tie
 
@@ -22,13 +22,13 @@ module _ (p : tie.After-put-verdict) where
   said = take (p .put-verdict .result) (p .put-verdict .last .1 .1 .1 .1 .0)
 
   length-said : length said ≡ p .put-verdict .result
-  length-said = length-take-le _ (p .put-verdict .last .1 .1 .1 .1 .0) (omega (arith, p .put-verdict .ensures .within, put-length (p .put-verdict .ensures)))
+  length-said = length-take-le _ (p .put-verdict .last .1 .1 .1 .1 .0) (omega (arith, p .put-verdict .ensures .within, stored-length (p .put-verdict .ensures)))
 
   spoken : (let a = p .before .before .before .before .before .before .args in said ≡ words (a .flags) (a .table .now) (recordTexts (a .line .now)) (examine (a .flags) (a .table .now) (a .expression .now)))
   spoken =
       let e = p .before .before in
       let a = e .before .before .before .before .args in
-      put-front (p .put-verdict .ensures) ∙ ap (λ (o : Outcome ℕ). words (a .flags) (a .table .now) (recordTexts (a .line .now)) o) (e .examine .ensures)
+      stored-front (p .put-verdict .ensures) ∙ ap (λ (o : Outcome ℕ). words (a .flags) (a .table .now) (recordTexts (a .line .now)) o) (e .examine .ensures)
 
 examine-requires : tie.Need-examine-requires
 examine-requires c κs = search needs
@@ -61,14 +61,14 @@ put-text-requires-2 : tie.Need-put-text-requires-2
 unfolding ascii
 put-text-requires-2 c κs =
     let t = c .before .before .before in
-    omega (arith, length-said (t .before .before .before .before), t .put-text .ensures .place, put-length (t .put-text .ensures))
+    omega (arith, length-said (t .before .before .before .before), t .put-text .ensures .place, stored-length (t .put-text .ensures))
 
 returns : tie.Need-returns
 unfolding ascii
 returns c =
     let u = c .before in
     let t = u .before .before .before .before in
-    shows-put refl (put-append (put-eq (spoken (t .before .before .before .before)) (t .put-text .ensures)) (u .put-text2 .ensures))
+    shows-put refl (stored-append (stored-eq (spoken (t .before .before .before .before)) (t .put-text .ensures)) (u .put-text2 .ensures))
 
 pub verdict-page-spec : {M : Type 1} → statement M
 verdict-page-spec =

@@ -1,4 +1,4 @@
--- `examine_rule::main` is safe and ends: the page's count is within its 1400 bytes. Assumes nothing.
+-- `examine_rule::main` is safe and ends: the page's count is within its 1400 bytes.
 use mathlib.Core.Path.{sym}
 use native.Mathlib.Omega.{arith}
 use lib.Seq.{length-take-le}

@@ -1,19 +1,18 @@
--- `examiner::examine` meets its contract: rows 1 and 2 (rules, Checked), and then the word that holds the table's bits is examined (Examined).
--- Assumes nothing.
+-- `examiner::examine` meets its contract: rows 1 and 2 (laws, Checked), and then the table by value is examined (Examined).
 use mathlib.Core.Path.{sym, ap, _∙_}
-use Prim.Native.Nat.{ℕ, _^_}
 use native.Mathlib.Omega.{arith}
 use denote.Ref.{now}
-use borrow.Author.Needs.{needs}
-use Rattle.bits.specs.Bit.{bit}
-use Rattle.bits.proofs.Word.{bit-word-keep}
 use Rattle.rules.specs.Limits.{ruleFlags}
-use Rattle.rules.specs.Table.{entry}
-use Rattle.rules.proofs.Checked.{table-flags, table-short, table-complete}
+use Rattle.laws.proofs.calls.Checked.{table-flags, table-short}
 use Rattle.examiner.specs.Answer.{examinationOf}
-use Rattle.examiner.proofs.Examined.{examine-bits, examineBits-ext}
+use Rattle.examiner.proofs.Examined.{examine-truth, examine-table}
+use borrow.Author.Needs.{needs}
 use Rattle.examiner.proofs.examine.Statement.{statement}
 use Rattle.examiner.proofs.examine.Tie as tie
+
+-- where the call began, from past row 1
+abbrev start : tie.Else1 → tie.Start
+start c = c .before .before .before
 
 refused-requires : tie.Need-refused-requires
 refused-requires c κs = search needs
@@ -22,7 +21,7 @@ returns : tie.Need-returns
 returns c =
     let a = c .before .before .before .before .args in
     ap examinationOf (c .refused .ensures)
-    ∙ sym (examine-bits (a .flags) (now (a .table)) (now (a .bytes)) ∙ table-flags ruleFlags (a .flags) (now (a .table)) _ (c .before .if1 .taken))
+    ∙ sym (examine-truth (a .flags) (now (a .table)) (now (a .bytes)) ∙ table-flags ruleFlags (a .flags) (now (a .table)) _ (c .before .if1 .taken))
 
 setting-count-requires : tie.Need-setting-count-requires
 setting-count-requires c κs = search needs
@@ -32,26 +31,23 @@ refused-requires-2 c κs = search needs
 
 returns-2 : tie.Need-returns-2
 returns-2 c =
-    let a = c .before .before .before .before .before .before .args in
+    let a = start (c .before .before .before) .args in
     ap examinationOf (c .refused2 .ensures)
-    ∙ sym (examine-bits (a .flags) (now (a .table)) (now (a .bytes))
+    ∙ sym (examine-truth (a .flags) (now (a .table)) (now (a .bytes))
     ∙ table-short ruleFlags (a .flags) (now (a .table)) _ (omega arith) (omega arith))
 
-table-word-requires : tie.Need-table-word-requires
-table-word-requires c κs = search needs
+of-entries-requires : tie.Need-of-entries-requires
+of-entries-requires c κs = search needs
 
-examine-word-requires : tie.Need-examine-word-requires
-examine-word-requires c κs = search needs
+examine-table-requires : tie.Need-examine-table-requires
+examine-table-requires c κs = search needs
 
 returns-3 : tie.Need-returns-3
 returns-3 c =
-    let a = c .before .before .before .before .before .before .before .args in
-    let n = a .flags in
-    let t = entry (now (a .table)) in
-    c .examine-word .ensures
-    ∙ sym (examine-bits n (now (a .table)) (now (a .bytes)) ∙ table-complete ruleFlags n (now (a .table)) _ (omega arith) (omega arith)
-    ∙ examineBits-ext n t (bit (c .before .table-word .result)) (now (a .bytes))
-    (λ at h. sym (ap (λ (w : ℕ). bit w at) (c .before .table-word .ensures) ∙ bit-word-keep (2 ^ n) t at h)))
+    let t = c .before in
+    let a = start (t .before .before .before) .args in
+    c .examine-table .ensures
+    ∙ examine-table (a .flags) (omega arith) (now (a .table)) (now (a .bytes)) (omega arith) (t .of-entries .result) (t .of-entries .ensures)
 
 pub examine-spec : {M : Type 1} → statement M
 examine-spec =
@@ -62,6 +58,6 @@ examine-spec =
     setting-count-requires
     refused-requires-2
     returns-2
-    table-word-requires
-    examine-word-requires
+    of-entries-requires
+    examine-table-requires
     returns-3)

@@ -1,4 +1,4 @@
--- `expr::constant` meets its contract: at each `return` the tests that led there say which case of `constantAt` holds. Assumes nothing.
+-- `expr::constant` meets its contract: at each `return` the tests that led there say which case of `constantAt` holds.
 use Prim.Native.Nat.{_+_, _<_, _≤_}
 use native.Mathlib.Omega.{arith}
 use lib.ListN.{length, getD}
@@ -29,8 +29,8 @@ add-payload c = search needs
 shared-slice-read-payload : tie.Need-shared-slice-read-payload
 shared-slice-read-payload c = search needs
 
-add-t12 : tie.Need-add-t12
-add-t12 c = search needs
+add-t13 : tie.Need-add-t13
+add-t13 c = search needs
 
 refused-requires-2 : tie.Need-refused-requires-2
 refused-requires-2 c κs = search needs
@@ -59,7 +59,7 @@ constant-spec =
     returns
     add-payload
     shared-slice-read-payload
-    add-t12
+    add-t13
     refused-requires-2
     returns-2
     returns-3)

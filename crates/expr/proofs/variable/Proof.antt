@@ -1,5 +1,5 @@
 -- `expr::variable` meets its contract: at each `return` the tests that led there say which case of `flagAt` holds. The payload fits a `usize`,
--- since the rule for the slice gives each byte its bound. Assumes nothing.
+-- since the rule for the slice gives each byte its bound.
 use Prim.Native.Nat.{_+_, _<_, _≤_}
 use native.Mathlib.Omega.{arith}
 use lib.ListN.{length, getD}

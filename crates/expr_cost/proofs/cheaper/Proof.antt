@@ -1,5 +1,4 @@
--- `expr_cost::cheaper` meets its contract: what costing answers of the two says which bytes are the cheaper. From the laws of Compared.
--- Assumes nothing.
+-- `expr_cost::cheaper` meets its contract: what costing answers of the two says which part of them is the cheaper. From the laws of Compared.
 use mathlib.Core.Path.{_≡_, sym, ap, _∙_}
 use denote.Ref.{now}
 use borrow.Author.Needs.{needs}
@@ -26,7 +25,7 @@ returns : tie.Need-returns
 returns c =
     let a = c .before .before .before .before .before .before .args in
     let e = sym (c .before .before .before .compute-cost .ensures) ∙ ap costingOf (c .before .enum-told .given .1) in
-    c .empty .ensures ∙ sym (cheaper-first (a .flags) (now (a .first)) (now (a .second)) _ _ e)
+    c .empty .ensures ∙ sym (cheaper-first (a .flags) (a .first) (a .second) _ _ _ e)
 
 compute-cost-requires-2 : tie.Need-compute-cost-requires-2
 compute-cost-requires-2 c κs = search needs
@@ -42,14 +41,15 @@ empty-requires-2 c κs = search needs
 
 -- costing's answer of the first, where it is not refused
 one : (c : tie.After-known-told)
-    → (let a = c .before .before .before .before .before .before .args in costing (a .flags) (now (a .first)) ≡ gives (costsOf (c .before .one .given .0 .0)))
+    → (let a = c .before .before .before .before .before .before .args in
+    costing (a .flags) (now (a .first)) ≡ gives (costsOf (c .before .one .given .0 .0)))
 one c = sym (c .before .before .before .compute-cost .ensures) ∙ ap costingOf (c .before .one .given .1)
 
 returns-2 : tie.Need-returns-2
 returns-2 c =
     let a = c .before .before .before .before .before .before .before .before .before .before .args in
     let e = sym (c .before .before .before .compute-cost2 .ensures) ∙ ap costingOf (c .before .enum-told2 .given .1) in
-    c .empty2 .ensures ∙ sym (cheaper-second (a .flags) (now (a .first)) (now (a .second)) _ _ _ (one (c .before .before .before .before)) e)
+    c .empty2 .ensures ∙ sym (cheaper-second (a .flags) (a .first) (a .second) _ _ _ _ (one (c .before .before .before .before)) e)
 
 is-better-requires : tie.Need-is-better-requires
 is-better-requires c κs = search needs
@@ -64,13 +64,13 @@ returns-3 : tie.Need-returns-3
 returns-3 c =
     let a = c .before .before .before .before .before .before .before .before .before .before .before .before .args in
     let first = one (c .before .before .before .before .before .before) in
-    sym (cheaper-better (a .flags) (now (a .first)) (now (a .second)) _ _ first (two (c .before .before)) (sym (c .before .is-better .ensures) ∙ c .if1 .taken))
+    sym (cheaper-better (a .flags) (a .first) (a .second) _ _ _ first (two (c .before .before)) (sym (c .before .is-better .ensures) ∙ c .if1 .taken))
 
 returns-4 : tie.Need-returns-4
 returns-4 c =
     let a = c .before .before .before .before .before .before .before .before .before .before .before .before .args in
     let first = one (c .before .before .before .before .before .before) in
-    sym (cheaper-else (a .flags) (now (a .first)) (now (a .second)) _ _ first (two (c .before .before)) (sym (c .before .is-better .ensures) ∙ c .if1 .left))
+    sym (cheaper-else (a .flags) (a .first) (a .second) _ _ _ first (two (c .before .before)) (sym (c .before .is-better .ensures) ∙ c .if1 .left))
 
 pub cheaper-spec : {M : Type 1} → statement M
 cheaper-spec =

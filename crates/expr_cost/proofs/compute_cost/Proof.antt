@@ -1,4 +1,4 @@
--- `expr_cost::compute_cost` meets its contract: too many flags are refused first, and then the walk answers. Assumes nothing.
+-- `expr_cost::compute_cost` meets its contract: too many flags are refused first, and then the walk answers.
 use mathlib.Core.Path.{sym, ap, _∙_}
 use native.Mathlib.Omega.{arith}
 use denote.Ref.{now}

@@ -1,4 +1,4 @@
--- `expr_cost::deeper` meets its contract: each arm is a case of `deepest`, which the requirement keeps within 16 bits. Assumes nothing.
+-- `expr_cost::deeper` meets its contract: each arm is a case of `deepest`, which the requirement keeps within 16 bits.
 use mathlib.Core.Path.{_≡_, sym, ap, _∙_}
 use Prim.Native.Nat.{ℕ, _+_}
 use native.Mathlib.Omega.{arith}

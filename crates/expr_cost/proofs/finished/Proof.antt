@@ -1,4 +1,4 @@
--- `expr_cost::finished` meets its contract: its test is that of `ended`. Assumes nothing.
+-- `expr_cost::finished` meets its contract: its test is that of `ended`.
 use borrow.Author.Needs.{needs}
 use borrow.Author.Tests.{eq-eqb, ne-eqb}
 use Rattle.expr_cost.proofs.finished.Statement.{statement}

@@ -1,5 +1,4 @@
 -- `expr_cost::is_better` meets its contract: where the sizes are equal the depths decide, else the sizes. From the laws of Compared.
--- Assumes nothing.
 use mathlib.Core.Path.{sym}
 use Rattle.expr_cost.specs.Answers.{costsOf}
 use Rattle.expr_cost.proofs.Compared.{better-same, better-other}

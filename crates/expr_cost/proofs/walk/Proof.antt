@@ -1,6 +1,6 @@
--- `expr_cost::walk` meets its contract. The loop's invariant: the arrays hold the depths of the machine's trees and which of them are ORs, and `saved`
--- is what these save. The measure is the number of records that may still begin. From the laws of expr's Walk and Costed, Depth and TreeCosts.
--- Assumes nothing.
+-- `expr_cost::walk` meets its contract. The loop's invariant: the arrays hold the depths of the machine's trees and which of them are ORs, and
+-- `saved` is what these save. The measure is the number of records that may still begin. From the laws of expr's Turn, Walk and Costed, of Depth and
+-- of TreeCosts.
 use mathlib.Core.Path.{refl, sym, ap, _∙_}
 use Prim.Native.Nat.{ℕ, _-_, _+_}
 use native.Mathlib.Omega.{arith}
@@ -35,52 +35,57 @@ loop-holds c =
 finished-requires : tie.Need-finished-requires Inv-loop μ-loop
 finished-requires c κs = costed-less (c .before .before .before .before .loop .inv)
 
+-- where a turn with a record began, and where the call did
+abbrev turn : tie.After-answer Inv-loop μ-loop → tie.At-loop Inv-loop μ-loop
+turn c = c .before .before .before .before
+
+abbrev start : tie.At-loop Inv-loop μ-loop → tie.Start Inv-loop μ-loop
+start c = c .before .before
+
 -- the record that the reader found
 found : (c : tie.After-answer Inv-loop μ-loop)
-    → (let a = c .before .before .before .before .before .before .args in
+    → (let a = start (turn c) .args in
     let node = c .answer .given .0 .0 in
-    Read (a .flags) (now (a .bytes)) (c .before .before .before .before .loop .place) (record { kind = kindOf (node .kind); next = node .next }))
-found c = turn-found (c .before .before .before .before .loop .inv .walk) (c .answer .given .1) (c .before .before .read .ensures)
+    Read (a .flags) (now (a .bytes)) (turn c .loop .place) (record { kind = kindOf (node .kind); next = node .next }))
+found c = turn-found (c .answer .given .1) (c .before .before .step .ensures)
 
 returns : tie.Need-returns Inv-loop μ-loop
 returns c =
     let l = c .before .before .before .before .before .loop in
-    let r = c .before .before .before .read in
+    let r = c .before .before .before .step in
     let past = turn-end (l .inv .walk) (r .result) (c .before .before .match .keys2) (c .before .match2 .keys2) (r .ensures) in
     costing-end (l .inv) (omega arith) past (c .finished .ensures)
 
 returns-2 : tie.Need-returns-2 Inv-loop μ-loop
 returns-2 c =
     let l = c .before .before .before .before .before .before .loop in
-    let answer = c .before .answer2 .given .1 in
-    sym (costing-refused _ _ _ _ (omega arith) (turn-refused (l .inv .walk) answer (c .before .before .before .before .read .ensures) (omega arith) (omega arith)))
+    let told = c .before .before .before .before .step .ensures in
+    sym (costing-refused _ _ _ _ (omega arith) (turn-refused (l .inv .walk) (c .before .answer2 .given .1) told (omega arith)))
 
 returns-3 : tie.Need-returns-3 Inv-loop μ-loop
 returns-3 c =
-    let l = c .before .before .before .before .before .before .before .before .loop in
+    let a = c .before .before .before .before in
     ap costingOf (c .refused .ensures)
-    ∙ sym (costing-refused _ _ _ _ (omega arith) (walk-few (l .inv .walk) (found (c .before .before .before .before)) (omega arith) (omega arith)))
+    ∙ sym (costing-refused _ _ _ _ (omega arith) (walk-few (turn a .loop .inv .walk) (found a) (omega arith) (omega arith)))
 
 add-saved : tie.Need-add-saved Inv-loop μ-loop
-add-saved c =
-    let l = c .before .before .before .before .before .before .before .before .loop in
-    search (costed-fits (l .inv) (omega arith))
+add-saved c = search (costed-fits (turn (c .before .before .before .before) .loop .inv) (omega arith))
 
 deeper-requires : tie.Need-deeper-requires Inv-loop μ-loop
 deeper-requires c κs =
-    let l = c .before .before .before .before .before .before .before .before .loop in
+    let a = c .before .before .before .before in
+    let l = turn a .loop in
     let arity = c .before .before .arity in
-    let base = l .depth - arity .result in
-    omega (arith, deepest-limit (l .inv) (found (c .before .before .before .before)) (omega arith) (arity .ensures) base (omega arith))
+    omega (arith, deepest-limit (l .inv) (found a) (omega arith) (arity .ensures) (l .depth - arity .result) (omega arith))
 
 loop-again : tie.Need-loop-again Inv-loop μ-loop
 loop-again c =
-    let l = c .before .before .before .before .before .before .before .before .before .loop in
+    let a = c .before .before .before .before .before in
+    let l = turn a .loop in
     let arity = c .before .before .before .arity in
     let base = l .depth - arity .result in
     let is = c .deeper .ensures ∙ ap (λ (k : ℕ). deepest k (getD (l .stack) base 0) (getD (l .stack) (base + 1) 0)) (arity .ensures) in
-    let here = found (c .before .before .before .before .before) in
-    costed-step (l .inv) depth-folds 0 here (omega arith) base (omega arith) (omega arith) _ is _ (c .before .is-or .ensures)
+    costed-step (l .inv) depth-folds 0 (found a) (omega arith) base (omega arith) (omega arith) _ is _ (c .before .is-or .ensures)
 
 returns-4 : tie.Need-returns-4 Inv-loop μ-loop
 returns-4 c =

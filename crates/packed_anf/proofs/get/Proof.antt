@@ -1,5 +1,4 @@
 -- `packed_anf::get` meets its contract: the shifted word's lowest digit is the coefficient's bit.
--- Assumes nothing.
 use mathlib.Core.Path.{sym, _∙_}
 use Prim.Native.Nat.{_/_, _%_, _^_}
 use borrow.Author.Needs.{needs}

@@ -1,12 +1,12 @@
 -- `packed_anf::is_stray` meets its contract by the laws of stray coefficients (Stray): with six flags or more there is none, and with fewer the first
--- word is greater than its low bits exactly where there is one. Assumes nothing.
+-- word is greater than its low bits exactly where there is one.
 use mathlib.Core.Path.{sym, ap, _∙_}
 use Prim.Native.Nat.{ℕ}
 use native.Mathlib.Omega.{arith}
 use borrow.Author.Needs.{needs}
 use lib.Dec.{ltb}
 use lib.ListN.{getD}
-use Rattle.rules.proofs.Packed.{wordCount-pos}
+use Rattle.laws.proofs.transform.Packed.{wordCount-pos}
 use Rattle.packed_anf.proofs.Stray.{stray-none, stray-first}
 use Rattle.packed_anf.proofs.is_stray.Statement.{statement}
 use Rattle.packed_anf.proofs.is_stray.Tie as tie

@@ -1,5 +1,4 @@
 -- `packed_anf::low_bits` meets its contract: fewer than six flags have at most 32 settings, so the shifted one stands inside the word.
--- Assumes nothing.
 use mathlib.Core.Path.{ap, _∙_}
 use Prim.Native.Nat.{ℕ, _%_, _^_, _≤_}
 use native.Mathlib.Omega.{arith}

@@ -1,5 +1,4 @@
 -- `packed_anf::set` meets its contract: the one that it puts in stands inside the word, so nothing of it is lost, and the store is that of Raised.
--- Assumes nothing.
 use mathlib.Core.Path.{sym, subst}
 use Prim.Native.Nat.{ℕ, _/_, _%_}
 use native.Mathlib.Omega.{arith}

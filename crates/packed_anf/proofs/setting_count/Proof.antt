@@ -1,4 +1,4 @@
--- `packed_anf::setting_count` meets its contract. Assumes nothing.
+-- `packed_anf::setting_count` meets its contract.
 use Rattle.bits.proofs.Shift.{one-shl}
 use borrow.Author.Needs.{needs}
 use Rattle.packed_anf.proofs.setting_count.Statement.{statement}

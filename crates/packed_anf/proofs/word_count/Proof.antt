@@ -1,5 +1,4 @@
 -- `packed_anf::word_count` meets its contract, which says the same of 2 ^ flags: at most 16 flags leave room for the sum.
--- Assumes nothing.
 use native.Mathlib.Omega.{arith}
 use borrow.Author.Needs.{needs}
 use lib.Pow.{pow-mono}

@@ -1,5 +1,5 @@
 -- The proof of the cycle of calls {put_fold}. The measure is the number of terms: of two or more terms each half has fewer. No term is the constant 0, one
--- term its product, and two or more the halves' folds and XO. Assumes nothing.
+-- term its product, and two or more the halves' folds and XO.
 use borrow.Author.Needs.{needs}
 use mathlib.Core.Bool.{false}
 use mathlib.Core.Path.{_≡_, sym, subst}

@@ -1,5 +1,4 @@
 -- `postfix::put_absorption` meets its contract: with constant 0 the absorption alone, and with constant 1 the constant, the absorption and XO.
--- Assumes nothing.
 use borrow.Author.Needs.{needs}
 use mathlib.Core.Bool.{true}
 use mathlib.Core.Path.{_≡_, sym}

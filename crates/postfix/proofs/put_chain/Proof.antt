@@ -1,11 +1,10 @@
 -- `postfix::put_chain` meets its contract. The loop's invariant: there is room for the links that are left, and whoever writes them from here on has written
--- all links from the loop's start. The measure is what is left of the mask, which falls with its lowest one. Assumes nothing.
+-- all links from the loop's start. The measure is what is left of the mask, which falls with its lowest one.
 use mathlib.Core.List.{List, [], _∷_}
 use Prim.Native.Nat.{ℕ, _-_, _*_, _^_, _<_}
 use native.Mathlib.Nat.{lt-trans}
 use native.Mathlib.Omega.{arith}
 use lib.ListN.{length}
-use Rattle.bits.specs.Word.{places}
 use Rattle.bits.proofs.Lowest.{trailing-lt, clear-lt}
 use Rattle.rules.specs.Form.{flags}
 use Rattle.postfix.specs.Written.{Room, Put, linked, chained}
@@ -17,7 +16,7 @@ use Rattle.postfix.proofs.put_chain.Tie as tie
 
 abbrev Inv-loop : tie.InvT-loop
 Inv-loop mask first second out₀ left₀ next₀ out left next =
-    (left < 2 ^ 64) × Room (linked (first ∷ second ∷ []) (places 64 left)) next out
+    (left < 2 ^ 64) × Room (linked (first ∷ second ∷ []) (flags left)) next out
     × ((b : Cursor) (after : List ℕ) → Links (first ∷ second ∷ []) left next b out after → Links (first ∷ second ∷ []) left₀ next₀ b out₀ after)
 
 abbrev μ-loop : tie.MeasureT-loop
@@ -106,7 +105,7 @@ module _ (c : tie.After-loop Inv-loop μ-loop) where
   whole =
       let l = c .before .loop in
       puts-chain (mark entry) (entry .args .mask) (some entry) (fits entry) (c .before .before .before .before .put-leaf .ensures)
-      (l .inv .2 (l .next) (l .out) (links-none (mark entry) (l .left) (l .next) (l .out) (c .loop-test .left)))
+      (l .inv .2 (l .next) (l .out) (links-none (mark entry) (l .left) (l .next) (l .out) (l .inv .1) (c .loop-test .left)))
 
 same-length : tie.Need-same-length Inv-loop μ-loop
 same-length c = put-length (whole c)

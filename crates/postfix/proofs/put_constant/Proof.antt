@@ -1,4 +1,4 @@
--- `postfix::put_constant` meets its contract: the leaf that it puts is the constant's record. Assumes nothing.
+-- `postfix::put_constant` meets its contract: the leaf that it puts is the constant's record.
 use borrow.Author.Needs.{needs}
 use mathlib.Core.Path.{refl, sym}
 use Rattle.rules.specs.Tree.{size}

@@ -1,4 +1,4 @@
--- `postfix::put_family` meets its contract: with constant 0 the chain alone, and with constant 1 the constant, the chain and XO. Assumes nothing.
+-- `postfix::put_family` meets its contract: with constant 0 the chain alone, and with constant 1 the constant, the chain and XO.
 use borrow.Author.Needs.{needs}
 use mathlib.Core.Bool.{true}
 use mathlib.Core.Path.{_≡_, sym}

@@ -1,4 +1,4 @@
--- `postfix::put_leaf` meets its contract: three stores, at the cursor's place and the next two, are the run of its three bytes. Assumes nothing.
+-- `postfix::put_leaf` meets its contract: three stores, at the cursor's place and the next two, are the run of its three bytes.
 use borrow.Author.Needs.{needs}
 use mathlib.Core.Path.{_≡_, refl}
 use Prim.Native.Nat.{suc, _+_}
@@ -36,7 +36,7 @@ returns : tie.Need-returns
 returns c =
     let i = c .args .at .place in
     let two : i + 2 ≡ suc (suc i) = omega arith in
-    record { place = refl; records = refl; bytes = rw (add-one i, two) }
+    record { stored = record { place = refl; within = omega arith; entries = rw (add-one i, two) }; records = refl }
 
 pub put-leaf-spec : {M : Type 1} → statement M
 put-leaf-spec =

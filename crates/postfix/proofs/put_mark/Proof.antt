@@ -1,4 +1,4 @@
--- `postfix::put_mark` meets its contract: two stores, at the cursor's place and the next, are the run of its two bytes. Assumes nothing.
+-- `postfix::put_mark` meets its contract: two stores, at the cursor's place and the next, are the run of its two bytes.
 use borrow.Author.Needs.{needs}
 use mathlib.Core.Path.{refl}
 use native.Mathlib.Numerals.{add-one}
@@ -26,7 +26,7 @@ same-length : tie.Need-same-length
 same-length c = search needs
 
 returns : tie.Need-returns
-returns c = record { place = refl; records = refl; bytes = rw (add-one (c .args .at .place)) }
+returns c = record { stored = record { place = refl; within = omega arith; entries = rw (add-one (c .args .at .place)) }; records = refl }
 
 pub put-mark-spec : {M : Type 1} → statement M
 put-mark-spec =

@@ -1,4 +1,4 @@
--- `postfix::put_or_chain` meets its contract: the chain that it puts is what the OR of the flags is written as. Assumes nothing.
+-- `postfix::put_or_chain` meets its contract: the chain that it puts is what the OR of the flags is written as.
 use borrow.Author.Needs.{needs}
 use mathlib.Core.Path.{sym}
 use Rattle.postfix.proofs.Chains.{write-orChain, records-orChain}

@@ -1,4 +1,4 @@
--- `postfix::put_product` meets its contract: the chain that it puts is what the product is written as. Assumes nothing.
+-- `postfix::put_product` meets its contract: the chain that it puts is what the product is written as.
 use borrow.Author.Needs.{needs}
 use mathlib.Core.Path.{sym}
 use Rattle.postfix.proofs.Chains.{write-cube, records-cube}

@@ -1,4 +1,4 @@
--- `postfix::put_term` meets its contract: the product of no flag is the constant 1. Assumes nothing.
+-- `postfix::put_term` meets its contract: the product of no flag is the constant 1.
 use borrow.Author.Needs.{needs}
 use mathlib.Core.Bool.{true}
 use mathlib.Core.Path.{_≡_, sym, ap, _∙_}

@@ -1,4 +1,4 @@
--- `postfix::put_without` meets its contract: a product, another with NO after it, and AN. Assumes nothing.
+-- `postfix::put_without` meets its contract: a product, another with NO after it, and AN.
 use borrow.Author.Needs.{needs}
 use Rattle.rules.specs.Form.{cube}
 use Rattle.rules.specs.Tree.{Tree, NO}

@@ -1,4 +1,4 @@
--- `rule_text::bad_line` meets its contract: the page of the text. Assumes nothing.
+-- `rule_text::bad_line` meets its contract: the page of the text.
 use borrow.Author.Needs.{needs}
 use Rattle.rules.specs.Ascii.{ascii}
 use Rattle.rule_text.proofs.bad_line.Statement.{statement}

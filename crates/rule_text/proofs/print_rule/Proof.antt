@@ -1,4 +1,4 @@
--- `rule_text::print_rule` meets its contract: each of its three answers is one law of Printed. Assumes nothing.
+-- `rule_text::print_rule` meets its contract: each of its three answers is one law of Printed.
 use mathlib.Core.Bool.{true}
 use mathlib.Core.Option.{some}
 use mathlib.Core.Path.{_≡_, sym, ap, _∙_}
@@ -9,7 +9,7 @@ use lib.Seq.{length-take-le}
 use borrow.Author.Needs.{needs}
 use borrow.Author.Tests.{not-true, not-false}
 use Rattle.rules.specs.Text.{flagsOf, isLine}
-use Rattle.text.specs.Digits.{sizeOf}
+use Rattle.text.specs.TableDigits.{sizeOf}
 use Rattle.text.proofs.FlagCount.{flags-some}
 use Rattle.text.proofs.Shown.{shows-eq, shows-told}
 use Rattle.rule_text.proofs.Printed.{line-long, line-all, printed-other, printed-ragged, printed-rule}

@@ -1,4 +1,4 @@
--- `rule_text::rule_page` meets its contract: the lines written at the front are the page. Assumes nothing.
+-- `rule_text::rule_page` meets its contract: the lines written at the front are the page.
 use mathlib.Core.Path.{refl}
 use borrow.Author.Needs.{needs}
 use Rattle.text.proofs.Shown.{shows-put}

@@ -1,5 +1,5 @@
 -- `rule_text::table_page` meets its contract: the table's entries are the digits' values, the compiler does not refuse them, and the lines of what it wrote are
--- the report. Assumes nothing.
+-- the report.
 use mathlib.Core.List.{List}
 use mathlib.Core.Path.{sym, ap, _∙_}
 use Prim.Native.Nat.{ℕ, _≤_}
@@ -9,8 +9,8 @@ use lib.Seq.{length-take-le}
 use borrow.Author.Needs.{needs}
 use Rattle.rules.specs.Calls.{compile}
 use Rattle.compiler.specs.declared.Expression.{Expression}
-use Rattle.text.specs.Digits.{values}
-use Rattle.text.proofs.Digits.{length-values, entries-front}
+use Rattle.text.specs.TableDigits.{values}
+use Rattle.text.proofs.TableDigits.{length-values, entries-front}
 use Rattle.text.proofs.FlagCount.{flags-most}
 use Rattle.text.proofs.Shown.{shows-eq}
 use Rattle.rule_text.proofs.Compiling.{Answered, never-refused, count-told, printable-told, report-told}

@@ -1,4 +1,4 @@
--- `text::page_of` meets its contract: the text written at the front is the page. Assumes nothing.
+-- `text::page_of` meets its contract: the text written at the front is the page.
 use mathlib.Core.Path.{refl}
 use borrow.Author.Needs.{needs}
 use Rattle.text.proofs.Shown.{shows-put}

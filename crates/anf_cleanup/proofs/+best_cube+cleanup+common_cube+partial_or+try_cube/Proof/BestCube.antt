@@ -1,48 +1,79 @@
 -- `anf_cleanup::best_cube`, a member of the cycle. Its loop's invariant: what is found so far, and the masks left to try, give the best cube (Cubes).
--- Assumes nothing.
-use Prim.Native.Nat.{ℕ}
+-- The measure is how many masks are left.
+use mathlib.Core.Path.{_≡_, sym, _∙_}
+use Prim.Native.Nat.{ℕ, _<_}
 use native.Mathlib.Omega.{arith}
-use Rattle.bits.proofs.Lowest.{clear-lt}
+use borrow.Author.Tests.{eqb-true, eqb-false, not-true, not-false}
+use lib.ListN.{length}
 use Rattle.form.specs.Masks.{masks}
-use Rattle.anf_cleanup.proofs.Cubes.{Searching, search-start, search-turn, search-end, search-mask}
+use Rattle.search.specs.Cubes.{cubes}
+use Rattle.anf_cleanup.proofs.Cubes.{Searching, search-start, search-turn, search-mask, search-fewer, search-none, search-found}
 use Rattle.anf_cleanup.proofs.best_cube.Reads as reads
 use Rattle.anf_cleanup.proofs.+best_cube+cleanup+common_cube+partial_or+try_cube.Lts-best_cube as lts
 use Rattle.anf_cleanup.proofs.+best_cube+cleanup+common_cube+partial_or+try_cube.Proof.Claims.{best-cube-at as at, best-cube-calls as calls}
 
 abbrev Inv-loop : lts.InvT-loop
-Inv-loop form families supersets best₀ left₀ best left = Searching (masks form) best left
+Inv-loop form lookup best₀ left₀ best left = Searching (masks form) best (cubes left)
 
 abbrev μ-loop : lts.MeasureT-loop
-μ-loop form families supersets best₀ left₀ best left = left
+μ-loop form lookup best₀ left₀ best left = length (cubes left)
 
 module _ (t : ℕ) where
   shared-cubes-requires : lts.Need-shared-cubes-requires (calls t) (at t) reads.Post Inv-loop μ-loop
   shared-cubes-requires c κs = tt
 
   loop-holds : lts.Need-loop-holds (calls t) (at t) reads.Post Inv-loop μ-loop
-  loop-holds c = search-start (c .before .args .form .word) _ (omega (arith, c .shared-cubes .ok)) (c .shared-cubes .ensures)
+  loop-holds c =
+      search-start (c .before .args .form) _ _ (omega arith) (omega arith) (c .shared-cubes .ensures)
 
-  cast-cube : lts.Need-cast-cube (calls t) (at t) reads.Post Inv-loop μ-loop
-  cast-cube c = omega (arith, search-mask _ _ _ (c .before .loop .inv) (omega arith))
+  is-empty-requires : lts.Need-is-empty-requires (calls t) (at t) reads.Post Inv-loop μ-loop
+  is-empty-requires c κs = tt
+
+  -- in a turn some mask is left, and after the loop none
+  some : (c : lts.Then1 (calls t) (at t) reads.Post Inv-loop μ-loop) → 0 < length (cubes (c .before .before .loop .left))
+  some c =
+      let full = eqb-false (length (cubes (c .before .before .loop .left))) 0 (sym (c .before .is-empty .ensures) ∙ not-true _ (c .if1 .taken)) in
+      omega arith
+
+  none : (c : lts.Else1 (calls t) (at t) reads.Post Inv-loop μ-loop) → length (cubes (c .before .before .loop .left)) ≡ 0
+  none c = eqb-true _ 0 (sym (c .before .is-empty .ensures) ∙ not-false _ (c .if1 .left))
+
+  first-requires : lts.Need-first-requires (calls t) (at t) reads.Post Inv-loop μ-loop
+  first-requires c κs = some c
 
   try-cube-requires : lts.Need-try-cube-requires (calls t) (at t) reads.Post Inv-loop μ-loop
   try-cube-requires c κs =
-      let pre = c .before .before .before .pre in
-      let mask = search-mask _ _ _ (c .before .loop .inv) (omega arith) in
-      (omega (arith, pre .0), (pre .1 .0, pre .1 .1, mask .0, mask .1))
+      let l = c .before .before .before in
+      let pre = l .before .before .pre in
+      let mask = search-mask _ _ _ (l .loop .inv) (some (c .before)) _ (c .first .ensures) in
+      (omega (arith, pre .0), (pre .1, mask .0, mask .1))
 
-  sub-left : lts.Need-sub-left (calls t) (at t) reads.Post Inv-loop μ-loop
-  sub-left c = omega arith
+  rest-requires : lts.Need-rest-requires (calls t) (at t) reads.Post Inv-loop μ-loop
+  rest-requires c κs = some (c .before .before)
 
   loop-less : lts.Need-loop-less (calls t) (at t) reads.Post Inv-loop μ-loop
-  loop-less c = clear-lt 64 (c .before .before .loop .left) (omega arith) (c .before .before .loop .inv .fits)
+  loop-less c =
+      let turn = c .before .before .before in
+      search-fewer _ _ _ (turn .before .before .loop .inv) (some turn) _ (c .rest .ensures)
 
   loop-again : lts.Need-loop-again (calls t) (at t) reads.Post Inv-loop μ-loop
-  loop-again c = search-turn _ _ _ (c .before .before .loop .inv) (omega arith) _ (c .try-cube .ensures)
+  loop-again c =
+      let tried = c .before in
+      let turn = tried .before .before in
+      search-turn _ _ _ (turn .before .before .loop .inv) (some turn) _ _ _ (tried .before .first .ensures) (c .rest .ensures)
+      (tried .try-cube .ensures)
 
   returns : lts.Need-returns (calls t) (at t) reads.Post Inv-loop μ-loop
-  returns c = search-end _ _ _ (c .before .loop .inv) (c .loop-test .left)
+  returns c =
+      let done = c .before .before in
+      search-none _ _ _ (done .before .before .loop .inv) (none done) (omega arith)
+
+  returns-2 : lts.Need-returns-2 (calls t) (at t) reads.Post Inv-loop μ-loop
+  returns-2 c =
+      let done = c .before .before in
+      search-found _ _ _ (done .before .before .loop .inv) (none done) (omega arith)
 
   pub spec : {M : Type 1} → lts.Closed (calls t) (at t) reads.Post M
   spec =
-      lts.spec (calls t) (at t) reads.Post Inv-loop μ-loop shared-cubes-requires loop-holds cast-cube try-cube-requires sub-left loop-less loop-again returns
+      lts.spec (calls t) (at t) reads.Post Inv-loop μ-loop shared-cubes-requires loop-holds is-empty-requires first-requires try-cube-requires
+      rest-requires loop-less loop-again returns returns-2

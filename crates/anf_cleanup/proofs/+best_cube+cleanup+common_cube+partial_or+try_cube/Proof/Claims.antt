@@ -1,6 +1,6 @@
 -- What the cycle's proof is stated over: each member's measure, its contract at a measure and below one, and what its callees ask and tell.
 -- The measure is five times the form's total literals and a rank within one form: the cleanup asks rules 2 and 3, rule 3 asks the search, and the
--- search each mask. Assumes nothing.
+-- search each mask.
 use Prim.Native.Nat.{ℕ, _+_, _*_, _<_}
 use borrow.Fn.Kinds.{In}
 use borrow.Fn.PlainCycle.{Measures, is, falls, and}
@@ -37,65 +37,79 @@ use Rattle.form.proofs.Form.stripped.Reads as stripped-reads
 use Rattle.form.proofs.Form.uncovered.Reads as uncovered-reads
 use Rattle.form.proofs.Form.without.Reads as without-reads
 use Rattle.anf_cleanup.proofs.product_cost.Reads as product-cost-reads
-use Rattle.form.proofs.search.best_family.Reads as best-family-reads
-use Rattle.form.proofs.search.is_cube.Reads as is-cube-reads
-use Rattle.form.proofs.search.shared_cubes.Reads as shared-cubes-reads
+use Rattle.search.proofs.Cubes.first.Reads as first-reads
+use Rattle.search.proofs.Cubes.is_empty.Reads as is-empty-cubes-reads
+use Rattle.search.proofs.Cubes.rest.Reads as rest-reads
+use Rattle.search.proofs.best_family.Reads as best-family-reads
+use Rattle.search.proofs.is_cube.Reads as is-cube-reads
+use Rattle.search.proofs.shared_cubes.Reads as shared-cubes-reads
 
-abbrev pub μ-best-cube : Measures 2 best-cube-kinds.ps ℕ
+abbrev pub μ-best-cube : Measures 1 best-cube-kinds.ps ℕ
 μ-best-cube κs a = 5 * literals (masks (a .0)) + 2
 
-abbrev pub μ-cleanup : Measures 2 cleanup-kinds.ps ℕ
+abbrev pub μ-cleanup : Measures 1 cleanup-kinds.ps ℕ
 μ-cleanup κs a = 5 * literals (masks (a .0)) + 4
 
-abbrev pub μ-common-cube : Measures 2 common-cube-kinds.ps ℕ
+abbrev pub μ-common-cube : Measures 1 common-cube-kinds.ps ℕ
 μ-common-cube κs a = 5 * literals (masks (a .0)) + 3
 
-abbrev pub μ-partial-or : Measures 2 partial-or-kinds.ps ℕ
+abbrev pub μ-partial-or : Measures 1 partial-or-kinds.ps ℕ
 μ-partial-or κs a = 5 * literals (masks (a .0)) + 3
 
-abbrev pub μ-try-cube : Measures 2 try-cube-kinds.ps ℕ
+abbrev pub μ-try-cube : Measures 1 try-cube-kinds.ps ℕ
 μ-try-cube κs a = 5 * literals (masks (a .0)) + 1
 
-abbrev pub best-cube-at : ℕ → In 2 best-cube-kinds.ps
-best-cube-at t = and 2 best-cube-kinds.ps (is 2 best-cube-kinds.ps μ-best-cube t) best-cube.Pre
+abbrev pub best-cube-at : ℕ → In 1 best-cube-kinds.ps
+best-cube-at t = and 1 best-cube-kinds.ps (is 1 best-cube-kinds.ps μ-best-cube t) best-cube.Pre
 
-abbrev pub best-cube-below : ℕ → In 2 best-cube-kinds.ps
+abbrev pub best-cube-below : ℕ → In 1 best-cube-kinds.ps
 best-cube-below t =
-    and 2 best-cube-kinds.ps (falls 2 best-cube-kinds.ps _<_ μ-best-cube t) best-cube.Pre
+    and 1 best-cube-kinds.ps (falls 1 best-cube-kinds.ps _<_ μ-best-cube t) best-cube.Pre
 
-abbrev pub cleanup-at : ℕ → In 2 cleanup-kinds.ps
-cleanup-at t = and 2 cleanup-kinds.ps (is 2 cleanup-kinds.ps μ-cleanup t) cleanup.Pre
+abbrev pub cleanup-at : ℕ → In 1 cleanup-kinds.ps
+cleanup-at t = and 1 cleanup-kinds.ps (is 1 cleanup-kinds.ps μ-cleanup t) cleanup.Pre
 
-abbrev pub cleanup-below : ℕ → In 2 cleanup-kinds.ps
-cleanup-below t = and 2 cleanup-kinds.ps (falls 2 cleanup-kinds.ps _<_ μ-cleanup t) cleanup.Pre
+abbrev pub cleanup-below : ℕ → In 1 cleanup-kinds.ps
+cleanup-below t = and 1 cleanup-kinds.ps (falls 1 cleanup-kinds.ps _<_ μ-cleanup t) cleanup.Pre
 
-abbrev pub common-cube-at : ℕ → In 2 common-cube-kinds.ps
+abbrev pub common-cube-at : ℕ → In 1 common-cube-kinds.ps
 common-cube-at t =
-    and 2 common-cube-kinds.ps (is 2 common-cube-kinds.ps μ-common-cube t) common-cube.Pre
+    and 1 common-cube-kinds.ps (is 1 common-cube-kinds.ps μ-common-cube t) common-cube.Pre
 
-abbrev pub common-cube-below : ℕ → In 2 common-cube-kinds.ps
+abbrev pub common-cube-below : ℕ → In 1 common-cube-kinds.ps
 common-cube-below t =
-    and 2 common-cube-kinds.ps (falls 2 common-cube-kinds.ps _<_ μ-common-cube t) common-cube.Pre
+    and 1 common-cube-kinds.ps (falls 1 common-cube-kinds.ps _<_ μ-common-cube t) common-cube.Pre
 
-abbrev pub partial-or-at : ℕ → In 2 partial-or-kinds.ps
+abbrev pub partial-or-at : ℕ → In 1 partial-or-kinds.ps
 partial-or-at t =
-    and 2 partial-or-kinds.ps (is 2 partial-or-kinds.ps μ-partial-or t) partial-or.Pre
+    and 1 partial-or-kinds.ps (is 1 partial-or-kinds.ps μ-partial-or t) partial-or.Pre
 
-abbrev pub partial-or-below : ℕ → In 2 partial-or-kinds.ps
+abbrev pub partial-or-below : ℕ → In 1 partial-or-kinds.ps
 partial-or-below t =
-    and 2 partial-or-kinds.ps (falls 2 partial-or-kinds.ps _<_ μ-partial-or t) partial-or.Pre
+    and 1 partial-or-kinds.ps (falls 1 partial-or-kinds.ps _<_ μ-partial-or t) partial-or.Pre
 
-abbrev pub try-cube-at : ℕ → In 2 try-cube-kinds.ps
-try-cube-at t = and 2 try-cube-kinds.ps (is 2 try-cube-kinds.ps μ-try-cube t) try-cube.Pre
+abbrev pub try-cube-at : ℕ → In 1 try-cube-kinds.ps
+try-cube-at t = and 1 try-cube-kinds.ps (is 1 try-cube-kinds.ps μ-try-cube t) try-cube.Pre
 
-abbrev pub try-cube-below : ℕ → In 2 try-cube-kinds.ps
+abbrev pub try-cube-below : ℕ → In 1 try-cube-kinds.ps
 try-cube-below t =
-    and 2 try-cube-kinds.ps (falls 2 try-cube-kinds.ps _<_ μ-try-cube t) try-cube.Pre
+    and 1 try-cube-kinds.ps (falls 1 try-cube-kinds.ps _<_ μ-try-cube t) try-cube.Pre
 
 -- what each member's callees ask and tell
 
 abbrev pub best-cube-calls : ℕ → best-cube-lts.Claims
-best-cube-calls t = (shared-cubes-reads.Asked, shared-cubes-reads.Learnt, try-cube-below t, try-cube.Post)
+best-cube-calls t = (
+  shared-cubes-reads.Asked,
+  shared-cubes-reads.Learnt,
+  is-empty-cubes-reads.Asked,
+  is-empty-cubes-reads.Learnt,
+  first-reads.Asked,
+  first-reads.Learnt,
+  try-cube-below t,
+  try-cube.Post,
+  rest-reads.Asked,
+  rest-reads.Learnt,
+)
 
 abbrev pub cleanup-calls : ℕ → cleanup-lts.Claims
 cleanup-calls t = (

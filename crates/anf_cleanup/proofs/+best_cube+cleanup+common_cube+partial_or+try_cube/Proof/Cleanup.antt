@@ -1,5 +1,5 @@
 -- `anf_cleanup::cleanup`, a member of the cycle: each path is one of the cleanup's equations (Rules), and its cost that of the tree that the choice
--- makes (Plans). Assumes nothing.
+-- makes (Plans).
 use mathlib.Core.Path.{refl, sym, _∙_}
 use Prim.Native.Nat.{ℕ}
 use native.Mathlib.Omega.{arith}
@@ -8,7 +8,7 @@ use Rattle.bits.proofs.Bit.{digit-le}
 use Rattle.rules.specs.Form.{rawForm}
 use Rattle.rules.specs.Monomial.{constant}
 use Rattle.form.specs.Masks.{masks}
-use Rattle.form.proofs.Flags.{singles-lt}
+use Rattle.form.proofs.Flags.{singles-below}
 use Rattle.anf_cleanup.specs.Plan.{Planned}
 use Rattle.anf_cleanup.specs.declared.Choice.the-variants.{Constant, Family, Raw}
 use Rattle.anf_cleanup.proofs.Bounds.{chain-limit}
@@ -28,7 +28,8 @@ module _ (t : ℕ) where
   returns : lts.Need-returns (calls t) (at t) reads.Post
   returns c =
       let none = c .before in
-      planned-chosen _ Constant _ _ _ _ (c .whole .ensures) (cost-constant _) tt refl tt _ (cleanup-constant _ (sym (none .before .count .ensures) ∙ none .if1 .taken))
+      planned-chosen _ Constant _ _ _ _ (c .whole .ensures) (cost-constant _) tt refl tt _
+      (cleanup-constant _ (sym (none .before .count .ensures) ∙ none .if1 .taken))
 
   is-family-requires : lts.Need-is-family-requires (calls t) (at t) reads.Post
   is-family-requires c κs = c .before .before .pre .1 .1
@@ -40,7 +41,7 @@ module _ (t : ℕ) where
   chain-cost-requires c κs =
       let asked = c .before .before in
       let form = asked .before .before .before .args .form in
-      omega (arith, family-singles (masks form) (sym (asked .is-family .ensures) ∙ c .before .if2 .taken), singles-lt (form .word))
+      omega (arith, family-singles (masks form) (sym (asked .is-family .ensures) ∙ c .before .if2 .taken), singles-below form)
 
   constant-requires : lts.Need-constant-requires (calls t) (at t) reads.Post
   constant-requires c κs = tt
@@ -52,7 +53,7 @@ module _ (t : ℕ) where
   add-whole c =
       let single = c .before .before in
       let form = single .before .before .before .before .before .args .form in
-      omega (arith, digit-le (constant (masks form)), chain-limit (single .singles .result) (omega (arith, singles-lt (form .word))))
+      omega (arith, digit-le (constant (masks form)), chain-limit (single .singles .result) (omega (arith, singles-below form)))
 
   whole-requires-2 : lts.Need-whole-requires-2 (calls t) (at t) reads.Post
   whole-requires-2 c κs = tt
@@ -64,7 +65,8 @@ module _ (t : ℕ) where
       let taken = single .before in
       let counted = taken .before .before in
       let whole = sym (taken .before .is-family .ensures) ∙ taken .if2 .taken in
-      planned-chosen _ Family _ _ _ _ (c .whole2 .ensures) (cost-family _ _ _ _ (single .singles .ensures) (plus .before .chain-cost .ensures) (plus .constant .ensures))
+      planned-chosen _ Family _ _ _ _ (c .whole2 .ensures)
+      (cost-family _ _ _ _ (single .singles .ensures) (plus .before .chain-cost .ensures) (plus .constant .ensures))
       whole refl tt _ (cleanup-family _ (λ e. counted .if1 .left (counted .before .count .ensures ∙ e)) whole)
 
   whole-requires-3 : lts.Need-whole-requires-3 (calls t) (at t) reads.Post
@@ -72,12 +74,14 @@ module _ (t : ℕ) where
 
   raw-planned : (c : lts.After-whole3 (calls t) (at t) reads.Post)
       → (let form = masks (c .before .before .before .before .before .args .form) in Planned form (rawForm form) (c .whole3 .result))
-  raw-planned c = planned-chosen _ Raw _ _ _ _ (c .whole3 .ensures) (cost-raw _ _ (c .before .before .before .before .before .pre .1 .0)) tt refl tt _ refl
+  raw-planned c =
+      planned-chosen _ Raw _ _ _ _ (c .whole3 .ensures) (cost-raw _ _ (c .before .before .before .before .before .pre .1 .0)) tt refl tt _ refl
 
   returns-3 : lts.Need-returns-3 (calls t) (at t) reads.Post
   returns-3 c =
       let left = c .before .before in
-      planned-single _ _ (sym (left .before .before .before .count .ensures) ∙ c .if3 .taken) (sym (left .before .is-family .ensures) ∙ left .if2 .left) (raw-planned (c .before))
+      planned-single _ _ (sym (left .before .before .before .count .ensures) ∙ c .if3 .taken)
+      (sym (left .before .is-family .ensures) ∙ left .if2 .left) (raw-planned (c .before))
 
   partial-or-requires : lts.Need-partial-or-requires (calls t) (at t) reads.Post
   partial-or-requires c κs = search needs
@@ -94,7 +98,8 @@ module _ (t : ℕ) where
       let raw = second .before .before in
       let left = raw .before in
       let counted = left .before .before in
-      planned-contest _ _ _ _ _ (λ e. counted .if1 .left (counted .before .count .ensures ∙ e)) (sym (left .before .is-family .ensures) ∙ left .if2 .left)
+      planned-contest _ _ _ _ _ (λ e. counted .if1 .left (counted .before .count .ensures ∙ e))
+      (sym (left .before .is-family .ensures) ∙ left .if2 .left)
       (raw-planned raw) (second .partial-or .ensures) (c .before .common-cube .ensures) (c .absorption .ensures)
 
   pub spec : {M : Type 1} → lts.Closed (calls t) (at t) reads.Post M

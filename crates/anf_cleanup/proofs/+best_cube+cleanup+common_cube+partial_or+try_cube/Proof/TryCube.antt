@@ -1,12 +1,12 @@
 -- `anf_cleanup::try_cube`, a member of the cycle: a mask that is no candidate leaves the best as it is, and so does one whose saving could not be the
--- best. Any other candidate's inner form is cleaned, with fewer literals (Candidates, Saving). Assumes nothing.
+-- best. Any other candidate's inner form is cleaned, with fewer literals (Candidates, Saving).
 use mathlib.Core.Path.{sym, _∙_}
 use Prim.Native.Nat.{ℕ, _-_}
 use native.Mathlib.Omega.{arith}
 use borrow.Author.Tests.{not-true, not-false}
-use Rattle.bits.proofs.Word.{ascending-places}
 use Rattle.form.specs.Masks.{masks}
-use Rattle.anf_cleanup.specs.Plan.{Known}
+use Rattle.form.proofs.Masks.{ascending-masks}
+use Rattle.anf_cleanup.specs.Inner.{Known}
 use Rattle.anf_cleanup.proofs.Candidates.{isCube-fewer}
 use Rattle.anf_cleanup.proofs.Plans.{planned-right}
 use Rattle.anf_cleanup.proofs.Saving.{Candidate, inner-many, inner-bounds, known-cube, tried-skipped, tried-more, tried-kept, tried-passed}
@@ -24,10 +24,10 @@ module _ (t : ℕ) where
   gross-saving-requires : lts.Need-gross-saving-requires (calls t) (at t) reads.Post
   gross-saving-requires c κs =
       let pre = c .before .before .pre .1 in
-      (pre .1, pre .2, pre .3, sym (c .before .is-cube .ensures) ∙ not-false _ (c .if1 .left))
+      (pre .0, pre .1, pre .2, sym (c .before .is-cube .ensures) ∙ not-false _ (c .if1 .left))
 
   stripped-requires : lts.Need-stripped-requires (calls t) (at t) reads.Post
-  stripped-requires c κs = let pre = c .before .before .before .pre .1 in (pre .1, pre .2, pre .3)
+  stripped-requires c κs = let pre = c .before .before .before .pre .1 in (pre .0, pre .1, pre .2)
 
   -- past the test, and with the stripped form
   candidate : (c : lts.After-stripped (calls t) (at t) reads.Post)
@@ -36,8 +36,8 @@ module _ (t : ℕ) where
       let tested = c .before .before in
       let start = tested .before .before in
       record {
-        rises = ascending-places 64 (start .args .form .word);
-        nonzero = start .pre .1 .2;
+        rises = ascending-masks (start .args .form);
+        nonzero = start .pre .1 .1;
         test = sym (tested .before .is-cube .ensures) ∙ not-false _ (tested .if1 .left);
         inner = c .stripped .ensures;
       }
@@ -65,7 +65,7 @@ module _ (t : ℕ) where
       let known = candidate inner in
       let start = inner .before .before .before .before in
       let fewer = isCube-fewer _ _ (known .test) (known .nonzero) _ (known .inner) in
-      (omega (arith, start .pre .0), (c .raw-cost .ensures, start .pre .1 .0, start .pre .1 .1))
+      (omega (arith, start .pre .0), (c .raw-cost .ensures, start .pre .1 .0))
 
   sub-saving : lts.Need-sub-saving (calls t) (at t) reads.Post
   sub-saving c =
@@ -76,17 +76,18 @@ module _ (t : ℕ) where
       → (let gross = c .before .before .before .before .before .before in
       let start = gross .before .before .before in
       let plan = c .cleanup .result in
-      Known (masks (start .args .form)) (record { cube = start .args .cube; saving = gross .gross-saving .result - plan .cost; inner = plan .cost; choice = plan .choice }))
+      let saving = gross .gross-saving .result - plan .cost in
+      Known (masks (start .args .form)) (record { cube = start .args .cube; saving = saving; inner = plan .cost; choice = plan .choice }))
   known c =
       let inner = c .before .before .before .before .before in
       let plan = c .cleanup .ensures in
       known-cube _ _ _ (candidate inner) _ _ _ (inner .before .gross-saving .ensures) (plan .costs) (planned-right _ _ plan)
 
   returns-3 : lts.Need-returns-3 (calls t) (at t) reads.Post
-  returns-3 c = tried-kept _ _ _ (known (c .before .before .before)) (c .if3 .taken)
+  returns-3 c = tried-kept _ _ _ (known (c .before .before .before)) (omega arith)
 
   returns-4 : lts.Need-returns-4 (calls t) (at t) reads.Post
-  returns-4 c = tried-more _ _ _ (known (c .before .before .before)) (c .if3 .left)
+  returns-4 c = tried-more _ _ _ (known (c .before .before .before)) (omega arith)
 
   pub spec : {M : Type 1} → lts.Closed (calls t) (at t) reads.Post M
   spec =

@@ -1,13 +1,13 @@
--- `anf_form::degree::count` meets its contract. The loop's invariant: so many masks are held by the words passed (rules, Held). The measure is what is
--- left of the words. Assumes nothing.
+-- `anf_form::degree::count` meets its contract. The loop's invariant: so many masks are held by the words passed (Held). The measure is what is left
+-- of the words.
 use mathlib.Core.Path.{_≡_, refl, ap}
 use Prim.Native.Nat.{ℕ, _-_, _≤_}
 use native.Mathlib.Numerals.{add-one}
 use native.Mathlib.Omega.{arith}
 use lib.ListN.{length}
 use Rattle.bits.specs.Range.{keep, from}
-use Rattle.rules.proofs.Held.{length-held, held-room}
-use Rattle.anf_form.specs.Degree.{held}
+use Rattle.anf_form.specs.Inner.{held}
+use Rattle.anf_form.proofs.Held.{length-held, held-room}
 use Rattle.anf_form.proofs.degree.count.Statement.{statement}
 use Rattle.anf_form.proofs.degree.count.Tie as tie
 
@@ -21,19 +21,16 @@ loop-holds : tie.Need-loop-holds Inv-loop μ-loop
 unfolding keep from
 loop-holds c = (omega arith, refl)
 
-mul-ones : tie.Need-mul-ones Inv-loop μ-loop
-mul-ones c = omega arith
+form-at-requires : tie.Need-form-at-requires Inv-loop μ-loop
+form-at-requires c κs = omega arith
 
-shared-slice-read-ones : tie.Need-shared-slice-read-ones Inv-loop μ-loop
-shared-slice-read-ones c = omega arith
-
-ones-requires : tie.Need-ones-requires Inv-loop μ-loop
-ones-requires c κs = tt
+size-requires : tie.Need-size-requires Inv-loop μ-loop
+size-requires c κs = tt
 
 add-total : tie.Need-add-total Inv-loop μ-loop
 add-total c =
-    let loop = c .before .before .before in
-    omega (arith, held-room (loop .before .before .args .coefficients .now) (loop .loop .i))
+    let l = c .before .before .before in
+    omega (arith, held-room (l .before .before .args .coefficients .now) (l .loop .i))
 
 add-i : tie.Need-add-i Inv-loop μ-loop
 add-i c = omega arith
@@ -43,10 +40,10 @@ loop-less c = omega arith
 
 loop-again : tie.Need-loop-again Inv-loop μ-loop
 loop-again c =
-    let loop = c .before .before .before in
-    let ws = loop .before .before .args .coefficients .now in
-    let i = loop .loop .i in
-    omega (arith, length-held ws i (c .before .shared-slice-known2 .given i .fits), ap (λ (k : ℕ). length (held k ws)) (add-one i))
+    let l = c .before .before .before in
+    let ws = l .before .before .args .coefficients .now in
+    let i = l .loop .i in
+    omega (arith, length-held ws i, ap length (c .before .form-at .ensures), ap (λ (k : ℕ). length (held k ws)) (add-one i))
 
 returns : tie.Need-returns Inv-loop μ-loop
 returns c =
@@ -60,9 +57,8 @@ count-spec =
     Inv-loop
     μ-loop
     loop-holds
-    mul-ones
-    shared-slice-read-ones
-    ones-requires
+    form-at-requires
+    size-requires
     add-total
     add-i
     loop-less

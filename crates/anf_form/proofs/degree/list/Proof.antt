@@ -1,24 +1,25 @@
--- `anf_form::degree::list` meets its contract. The loop's invariant: the monomials of lower degree are written, degree by degree (rules, Degrees). The
--- measure is what is left of the degrees. Assumes nothing.
+-- `anf_form::degree::list` meets its contract. The loop's invariant: the monomials of lower degree are written, degree by degree (mask_words,
+-- Degrees). The measure is what is left of the degrees.
 use mathlib.Core.List.{List, _++_}
 use mathlib.Core.Path.{_≡_, ap, _∙_}
 use Prim.Native.Nat.{ℕ, _+_, _-_, _≤_}
 use native.Mathlib.Numerals.{add-one}
 use native.Mathlib.Omega.{arith}
 use lib.ListN.{length}
+use Rattle.bits.specs.Stored.{Room, Stored}
+use Rattle.bits.proofs.Stored.{stored-none, stored-append, stored-length, room-next}
 use Rattle.rules.specs.Monomial.{monomials, ordered}
-use Rattle.rules.proofs.Degrees.{degrees, degrees-one, degrees-suc, degrees-le, ordered-monomials}
-use Rattle.rules.proofs.Held.{ascending-held}
-use Rattle.rules.proofs.Ordered.{length-ordered}
-use Rattle.anf_form.specs.Degree.{held, ofDegree}
-use Rattle.anf_form.specs.Stored.{Stored}
-use Rattle.anf_form.proofs.Runs.{stored-none, stored-more, stored-length, stored-room}
+use Rattle.mask_words.proofs.Degrees.{degrees, degrees-one, degrees-suc, degrees-le, ordered-monomials}
+use Rattle.anf_form.proofs.Held.{ascending-held}
+use Rattle.laws.proofs.form.Ordered.{length-ordered}
+use Rattle.mask_words.specs.inner.Degree.{ofDegree}
+use Rattle.anf_form.specs.Inner.{held}
 use Rattle.anf_form.proofs.degree.list.Statement.{statement}
 use Rattle.anf_form.proofs.degree.list.Tie as tie
 
 abbrev Inv-loop : tie.InvT-loop
 Inv-loop flags words coefficients out₀ at₀ degree₀ degree-end out at degree =
-    (1 ≤ degree) × (degree ≤ flags + 1) × Stored out₀ 0 (degrees (monomials (held words coefficients)) degree) out at
+    (1 ≤ degree) × (degree ≤ flags + 1) × Stored (degrees (monomials (held words coefficients)) degree) 0 at out₀ out
 
 abbrev μ-loop : tie.MeasureT-loop
 μ-loop flags words coefficients out₀ at₀ degree₀ degree-end out at degree = degree-end - degree
@@ -44,17 +45,17 @@ module _ (c : tie.In-loop Inv-loop μ-loop) where
   more : degrees (monomials l) (d + 1) ≡ degrees (monomials l) d ++ ofDegree d l
   more = ap (degrees (monomials l)) (add-one d) ∙ degrees-suc l d (c .before .loop .inv .0)
 
-  room : c .before .loop .at + length (ofDegree d l) ≤ length (c .before .loop .out)
+  room : Room (ofDegree d l) (c .before .loop .at) (c .before .loop .out)
   room =
       let start = c .before .before .before .before in
       let fits = degrees-le (monomials l) (d + 1) (start .args .flags + 1) (omega arith) in
-      stored-room (c .before .loop .inv .2) (ofDegree d l) (rw (← more) (omega (arith, ap length (whole start), length-ordered (monomials l))))
+      room-next (ofDegree d l) (rw (← more) (omega (arith, ap length (whole start), length-ordered (monomials l)))) (c .before .loop .inv .2)
 
 add-degree-end : tie.Need-add-degree-end Inv-loop μ-loop
 add-degree-end c = omega arith
 
 loop-holds : tie.Need-loop-holds Inv-loop μ-loop
-loop-holds c = (omega arith, omega arith, rw (degrees-one (masks (c .before .before))) (stored-none _ 0))
+loop-holds c = (omega arith, omega arith, rw (degrees-one (masks (c .before .before))) (stored-none 0 _ (omega arith)))
 
 list-degree-requires : tie.Need-list-degree-requires Inv-loop μ-loop
 list-degree-requires c κs = (omega arith, room (c .before))
@@ -68,7 +69,7 @@ loop-less c = omega arith
 loop-again : tie.Need-loop-again Inv-loop μ-loop
 loop-again c =
     let turn = c .before .before .before .before in
-    (omega arith, omega arith, rw (more turn) (stored-more (turn .before .loop .inv .2) (c .before .before .list-degree .ensures)))
+    (omega arith, omega arith, rw (more turn) (stored-append (turn .before .loop .inv .2) (c .before .before .list-degree .ensures)))
 
 same-length : tie.Need-same-length Inv-loop μ-loop
 same-length c = stored-length (c .before .loop .inv .2)

@@ -1,70 +1,61 @@
--- `anf_form::degree::list_degree` meets its contract. The loop's invariant: the masks of that degree in the words passed are written, and the next place is
--- behind them. A turn writes those of one word more (rules, Held). The measure is what is left of the words. Assumes nothing.
+-- `anf_form::degree::list_degree` meets its contract. The loop's invariant: the masks of that degree in the words passed are written, and the next
+-- place is behind them. A turn writes those of one word more (Held). The measure is what is left of the words.
 use mathlib.Core.List.{List, map, _++_}
-use mathlib.Core.Path.{_≡_, sym, ap, _∙_}
+use mathlib.Core.Path.{_≡_, ap, _∙_}
 use Prim.Native.Nat.{ℕ, _+_, _-_, _*_, _≤_}
 use native.Mathlib.Numerals.{add-one}
 use native.Mathlib.Omega.{arith}
 use lib.Count.{ones}
 use lib.Dec.{eqb}
-use lib.ListN.{length, length-map}
+use lib.ListN.{length-map}
 use Rattle.bits.specs.Range.{keep, from}
-use Rattle.bits.specs.Word.{places}
-use Rattle.rules.proofs.Held.{held-keep-suc, held-le}
-use Rattle.anf_form.specs.Degree.{held, ofDegree}
-use Rattle.anf_form.specs.Stored.{Stored}
-use Rattle.anf_form.proofs.Runs.{stored-none, stored-more, stored-length, stored-room}
+use Rattle.bits.specs.Stored.{Room, Stored}
+use Rattle.bits.proofs.Stored.{stored-none, stored-append, stored-length, room-next}
+use Rattle.mask_words.specs.inner.Degree.{ofDegree}
+use Rattle.anf_form.specs.Inner.{held, ofBlock}
+use Rattle.anf_form.proofs.Held.{held-keep-suc, held-le}
 use Rattle.anf_form.proofs.degree.list_degree.Statement.{statement}
 use Rattle.anf_form.proofs.degree.list_degree.Tie as tie
 
 abbrev Inv-loop : tie.InvT-loop
-Inv-loop degree words coefficients out₀ at next₀ i₀ out next i = (i ≤ words) × Stored out₀ at (ofDegree degree (held i coefficients)) out next
+Inv-loop degree words coefficients out₀ at next₀ i₀ out next i = (i ≤ words) × Stored (ofDegree degree (held i coefficients)) at next out₀ out
 
 abbrev μ-loop : tie.MeasureT-loop
 μ-loop degree words coefficients out₀ at next₀ i₀ out next i = words - i
 
 -- in a turn: the masks of one word more, and room for them
-module _ (c : tie.After-of-degree Inv-loop μ-loop) where
+module _ (c : tie.In-loop Inv-loop μ-loop) where
+  abbrev start : tie.Start Inv-loop μ-loop
+  start = c .before .before .before .before
+
   abbrev d : ℕ
-  d = c .before .before .before .before .before .before .args .degree
+  d = start .args .degree
 
   abbrev ws : List ℕ
-  ws = c .before .before .before .before .before .before .args .coefficients .now
+  ws = start .args .coefficients .now
 
   abbrev i : ℕ
-  i = c .before .before .before .loop .i
+  i = c .before .loop .i
 
-  abbrev block : List ℕ
-  block = map (λ j. 64 * i + j) (places 64 (c .of-degree .result))
+  abbrev next : List ℕ
+  next = map (λ j. 64 * i + j) (ofBlock d i ws)
 
-  more : ofDegree d (held (i + 1) ws) ≡ ofDegree d (held i ws) ++ block
-  more =
-      ap (λ (k : ℕ). ofDegree d (held k ws)) (add-one i) ∙ held-keep-suc ws (λ m. eqb (ones m) d) i
-      ∙ ap (λ (l : List ℕ). ofDegree d (held i ws) ++ map (λ j. 64 * i + j) l) (sym (c .of-degree .ensures))
+  more : ofDegree d (held (i + 1) ws) ≡ ofDegree d (held i ws) ++ next
+  more = ap (λ (k : ℕ). ofDegree d (held k ws)) (add-one i) ∙ held-keep-suc ws (λ m. eqb (ones m) d) i
 
-  room : c .before .before .before .loop .next + length block ≤ length (c .before .before .before .loop .out)
+  room : Room next (c .before .loop .next) (c .before .loop .out)
   room =
-      let fits = held-le ws (λ m. eqb (ones m) d) (i + 1) (c .before .before .before .before .before .before .args .words) (omega arith) in
-      stored-room (c .before .before .before .loop .inv .1) block (rw (← more) (omega arith))
+      let fits = held-le ws (λ m. eqb (ones m) d) (i + 1) (start .args .words) (omega arith) in
+      room-next next (rw (← more) (omega arith)) (c .before .loop .inv .1)
 
 loop-holds : tie.Need-loop-holds Inv-loop μ-loop
 unfolding keep from
-loop-holds c = (omega arith, stored-none _ _)
+loop-holds c = (omega arith, stored-none _ _ (omega arith))
 
-mul-of-degree : tie.Need-mul-of-degree Inv-loop μ-loop
-mul-of-degree c = omega arith
-
-shared-slice-read-of-degree : tie.Need-shared-slice-read-of-degree Inv-loop μ-loop
-shared-slice-read-of-degree c = omega arith
-
-of-degree-requires : tie.Need-of-degree-requires Inv-loop μ-loop
-of-degree-requires c κs = tt
-
-mul-list-word : tie.Need-mul-list-word Inv-loop μ-loop
-mul-list-word c = omega arith
-
-list-word-requires : tie.Need-list-word-requires Inv-loop μ-loop
-list-word-requires c κs = (omega arith, rw (length-map (places 64 (c .before .of-degree .result)) (λ j. 64 * i (c .before) + j)) at (room (c .before)))
+list-block-requires : tie.Need-list-block-requires Inv-loop μ-loop
+list-block-requires c κs =
+    let turn = c .before in
+    (omega arith, omega (arith, room turn, length-map (ofBlock (d turn) (i turn) (ws turn)) (λ j. 64 * i turn + j)))
 
 add-i : tie.Need-add-i Inv-loop μ-loop
 add-i c = omega arith
@@ -75,7 +66,7 @@ loop-less c = omega arith
 loop-again : tie.Need-loop-again Inv-loop μ-loop
 loop-again c =
     let turn = c .before .before .before .before in
-    (omega arith, rw (more turn) (stored-more (turn .before .before .before .loop .inv .1) (c .before .before .list-word .ensures)))
+    (omega arith, rw (more turn) (stored-append (turn .before .loop .inv .1) (c .before .before .list-block .ensures)))
 
 same-length : tie.Need-same-length Inv-loop μ-loop
 same-length c = stored-length (c .before .loop .inv .1)
@@ -92,11 +83,7 @@ list-degree-spec =
     Inv-loop
     μ-loop
     loop-holds
-    mul-of-degree
-    shared-slice-read-of-degree
-    of-degree-requires
-    mul-list-word
-    list-word-requires
+    list-block-requires
     add-i
     loop-less
     loop-again

@@ -1,5 +1,5 @@
 -- `anf_transform::between::along_flag` meets its contract. The loop's invariant: the words before the next block are joined, and the others are as they
--- were; the words are a whole number of blocks. Assumes nothing.
+-- were; the words are a whole number of blocks.
 use mathlib.Core.Path.{_≡_}
 use Prim.Native.Nat.{_+_, _-_, _*_, _^_, _≤_}
 use native.Mathlib.Omega.{arith}

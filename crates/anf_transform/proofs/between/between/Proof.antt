@@ -1,11 +1,11 @@
 -- `anf_transform::between::between` meets its contract. The loop's invariant: words that held the XOR over subsets for the six lowest flags hold it for
--- the flags done too. Assumes nothing.
+-- the flags done too.
 use mathlib.Core.Bool.{Bool}
 use mathlib.Core.Path.{_≡_, refl, _∙_}
 use Prim.Native.Nat.{ℕ, _+_, _-_, _≤_}
 use native.Mathlib.Omega.{arith}
 use lib.ListN.{length}
-use Rattle.anf_transform.specs.Flag.{lowest, Holds}
+use Rattle.anf_transform.specs.inner.Flag.{lowest, Holds}
 use Rattle.anf_transform.proofs.AcrossWords.{holds-next}
 use Rattle.anf_transform.proofs.between.between.Statement.{statement}
 use Rattle.anf_transform.proofs.between.between.Tie as tie

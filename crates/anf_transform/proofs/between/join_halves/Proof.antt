@@ -1,11 +1,11 @@
 -- `anf_transform::between::join_halves` meets its contract. The loop's invariant: the words from the middle up to the next one are changed, and the
--- others are as they were; so both words that a turn reads are. Assumes nothing.
+-- others are as they were; so both words that a turn reads are.
 use mathlib.Core.Path.{_≡_, refl, ap₂}
 use Prim.Native.Nat.{_+_, _-_, _*_, _≤_}
 use native.Mathlib.Omega.{arith}
 use lib.Bits.{bitXor}
-use Rattle.anf_transform.specs.Change.{Changed}
-use Rattle.anf_transform.specs.Flag.{pairXor}
+use Rattle.anf_transform.specs.inner.Change.{Changed}
+use Rattle.anf_transform.specs.inner.Flag.{pairXor}
 use Rattle.anf_transform.proofs.Change.{changed-none, changed-next}
 use Rattle.anf_transform.proofs.between.join_halves.Statement.{statement}
 use Rattle.anf_transform.proofs.between.join_halves.Tie as tie

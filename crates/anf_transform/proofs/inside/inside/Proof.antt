@@ -1,11 +1,11 @@
 -- `anf_transform::inside::inside` meets its contract. The loop's invariant: the words before the next one are transformed, and the others are as they
--- were. Assumes nothing.
+-- were.
 use mathlib.Core.Path.{_≡_, refl, ap, _∙_}
 use Prim.Native.Nat.{_-_, _≤_}
 use native.Mathlib.Omega.{arith}
 use lib.ListN.{length, getD}
-use Rattle.anf_transform.specs.Change.{Changed}
-use Rattle.anf_transform.specs.Flag.{inWord}
+use Rattle.anf_transform.specs.inner.Change.{Changed}
+use Rattle.anf_transform.specs.inner.Flag.{inWord}
 use Rattle.anf_transform.proofs.Change.{changed-none, changed-next}
 use Rattle.anf_transform.proofs.inside.inside.Statement.{statement}
 use Rattle.anf_transform.proofs.inside.inside.Tie as tie

@@ -1,4 +1,4 @@
--- `anf_transform::inside::transform_word` meets its contract: its six lines are the six turns of `joinedWord`. Assumes nothing.
+-- `anf_transform::inside::transform_word` meets its contract: its six lines are the six turns of `joinedWord`.
 use Rattle.anf_transform.proofs.InWord.{joined-six}
 use Rattle.anf_transform.proofs.inside.transform_word.Statement.{statement}
 use Rattle.anf_transform.proofs.inside.transform_word.Tie as tie

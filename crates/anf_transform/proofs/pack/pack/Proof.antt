@@ -1,5 +1,4 @@
 -- `anf_transform::pack::pack` meets its contract. The loop's invariant: the first i words are those of the table. The measure is what is left of the words.
--- Assumes nothing.
 use mathlib.Core.Path.{_≡_, ap, _∙_}
 use Prim.Native.Nat.{ℕ, _+_, _-_, _*_, _^_, _≤_, _<_, min}
 use native.Mathlib.Nat.{min-le-right}
@@ -11,7 +10,7 @@ use Rattle.bits.specs.Range.{keep, upto}
 use Rattle.bits.specs.Word.{word}
 use Rattle.rules.specs.Coefficient.{wordCount, words}
 use Rattle.rules.specs.Table.{entry}
-use Rattle.rules.proofs.Packed.{length-words}
+use Rattle.laws.proofs.transform.Packed.{length-words}
 use Rattle.bits.proofs.Stores.{front-more, front-all}
 use Rattle.anf_transform.proofs.Words.{part-fits, part-word}
 use Rattle.anf_transform.proofs.pack.pack.Statement.{statement}

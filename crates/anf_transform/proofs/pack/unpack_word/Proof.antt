@@ -1,5 +1,4 @@
 -- `anf_transform::pack::unpack_word` meets its contract. The loop's invariant: the first j bits are stored. The measure is what is left of the count.
--- Assumes nothing.
 use mathlib.Core.List.{List, [], _∷_, map}
 use mathlib.Core.Path.{_≡_, sym, ap, ap₂, _∙_}
 use Prim.Native.Nat.{ℕ, _+_, _-_, _/_, _%_, _^_, _≤_}

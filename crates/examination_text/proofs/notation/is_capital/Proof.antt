@@ -1,4 +1,4 @@
--- `examination_text::notation::is_capital` meets its contract: its two tests are those of `isCapital`. Assumes nothing.
+-- `examination_text::notation::is_capital` meets its contract: its two tests are those of `isCapital`.
 use borrow.Author.Tests.{le-leb, lt-leb}
 use Rattle.examination_text.proofs.notation.is_capital.Statement.{statement}
 use Rattle.examination_text.proofs.notation.is_capital.Tie as tie

@@ -1,4 +1,4 @@
--- `examination_text::notation::is_numeral` meets its contract: its two tests are those of `isNumeral`. Assumes nothing.
+-- `examination_text::notation::is_numeral` meets its contract: its two tests are those of `isNumeral`.
 use borrow.Author.Tests.{le-leb, lt-leb}
 use Rattle.examination_text.proofs.notation.is_numeral.Statement.{statement}
 use Rattle.examination_text.proofs.notation.is_numeral.Tie as tie

@@ -1,4 +1,4 @@
--- `examination_text::notation::is_record` meets its contract: each answer is one law of Records. Assumes nothing.
+-- `examination_text::notation::is_record` meets its contract: each answer is one law of Records.
 use mathlib.Core.Bool.{true}
 use mathlib.Core.List.{List}
 use mathlib.Core.Path.{_≡_, sym, _∙_}

@@ -1,5 +1,5 @@
 -- `examination_text::notation::is_rule` meets its contract. The loop's invariant: the line is records exactly where its parts from the place on are. The measure
--- is what is left of the line. Assumes nothing.
+-- is what is left of the line.
 use mathlib.Core.Bool.{true}
 use mathlib.Core.Path.{_≡_, sym, ap, _∙_}
 use Prim.Native.Nat.{_-_, _≤_}

@@ -1,4 +1,4 @@
--- `examination_text::notation::put_record` meets its contract: two letters, and the digit's value where there is one (Records). Assumes nothing.
+-- `examination_text::notation::put_record` meets its contract: two letters, and the digit's value where there is one (Records).
 use mathlib.Core.List.{[], _∷_}
 use mathlib.Core.Path.{_≡_, sym}
 use Prim.Native.Nat.{_-_, _≤_}
@@ -6,8 +6,8 @@ use native.Mathlib.Omega.{arith}
 use lib.ListN.{length, getD, take}
 use lib.Seq.{length-take-le}
 use borrow.Author.Needs.{needs}
-use Rattle.text.specs.Put.{Room}
-use Rattle.text.proofs.Put.{put-append, put-eq, room-eq, room-next}
+use Rattle.bits.specs.Stored.{Room}
+use Rattle.bits.proofs.Stored.{stored-append, stored-eq, room-eq, room-next}
 use Rattle.examination_text.proofs.Records.{record-size, record-digit, bytes-two, bytes-three, length-bytes}
 use Rattle.examination_text.proofs.notation.put_record.Statement.{statement}
 use Rattle.examination_text.proofs.notation.put_record.Tie as tie
@@ -43,7 +43,7 @@ returns : tie.Need-returns
 returns c =
     let p = c .before .before .before in
     let s = p .before .before .before .before .before in
-    put-eq (sym (bytes-two (s .args .text .now) (c .if1 .taken))) (p .put-text .ensures)
+    stored-eq (sym (bytes-two (s .args .text .now) (c .if1 .taken))) (p .put-text .ensures)
 
 shared-slice-read-t13 : tie.Need-shared-slice-read-t13
 shared-slice-read-t13 c = let s = c .before .before .before .before .before .before .before .before .before in omega (arith, size s)
@@ -68,7 +68,7 @@ returns-2 c =
     let q = c .before .before in
     let e = q .before .before .before .before in
     let s = start e in
-    put-eq (sym (bytes-three (s .args .text .now) (three e))) (put-append (e .before .before .before .put-text .ensures) (q .put-text2 .ensures))
+    stored-eq (sym (bytes-three (s .args .text .now) (three e))) (stored-append (e .before .before .before .put-text .ensures) (q .put-text2 .ensures))
 
 pub put-record-spec : {M : Type 1} → statement M
 put-record-spec =

@@ -1,12 +1,12 @@
 -- `examination_text::notation::put_rule` meets its contract. The loop's invariant is `Walk`: the records from the place on are left to write. The measure is what is
--- left of the line. Assumes nothing.
+-- left of the line.
 use mathlib.Core.Path.{sym, ap}
 use Prim.Native.Nat.{_-_}
 use native.Mathlib.Omega.{arith}
 use lib.ListN.{length}
 use Rattle.bits.specs.Sum.{sum}
-use Rattle.text.specs.Put.{Put}
-use Rattle.text.proofs.Put.{put-none, put-eq, put-length}
+use Rattle.bits.specs.Stored.{Stored}
+use Rattle.bits.proofs.Stored.{stored-none, stored-eq, stored-length}
 use Rattle.examination_text.specs.Notation.{recordTexts, expression}
 use Rattle.examination_text.proofs.Rule.{texts-none, rule-record}
 use Rattle.examination_text.proofs.Walk.{Walk, walk-start, walk-room, walk-end, walk-step}
@@ -21,7 +21,7 @@ abbrev μ-loop : tie.MeasureT-loop
 
 returns : tie.Need-returns Inv-loop μ-loop
 unfolding expression sum
-returns c = put-eq (sym (ap expression (texts-none (c .before .before .before .args .line .now) (c .if1 .taken)))) (put-none 0 _ (omega arith))
+returns c = stored-eq (sym (ap expression (texts-none (c .before .before .before .args .line .now) (c .if1 .taken)))) (stored-none 0 _ (omega arith))
 
 loop-holds : tie.Need-loop-holds Inv-loop μ-loop
 loop-holds c = let s = c .before .before .before in walk-start (s .args .line .now) (s .args .out .now) (c .if1 .left) (s .pre .0)
@@ -45,14 +45,14 @@ put-record-requires c κs =
 
 -- where the part was the last
 ended : (c : tie.Then2 Inv-loop μ-loop)
-    → (let q = c .before .before .before in let a = q .before .before .before .before .before .before .before .before .args in Put (expression (recordTexts (a .line .now))) 0 (q .put-record .result) (a .out .now) (q .put-record .last .1 .0))
+    → (let q = c .before .before .before in let a = q .before .before .before .before .before .before .before .before .args in Stored (expression (recordTexts (a .line .now))) 0 (q .put-record .result) (a .out .now) (q .put-record .last .1 .0))
 ended c =
     let q = c .before .before .before in
     let u = q .before .before .before in
     walk-end (u .before .loop .inv) (u .until .ensures) (q .put-record .ensures) (c .if2 .taken)
 
 same-length : tie.Need-same-length Inv-loop μ-loop
-same-length c = put-length (ended c)
+same-length c = stored-length (ended c)
 
 returns-2 : tie.Need-returns-2 Inv-loop μ-loop
 returns-2 c = ended c

@@ -1,5 +1,5 @@
 -- `examination_text::notation::record_number` meets its contract. The loop's invariant: the number reached, and the number among the records from the place on, are
--- together one more than the number. The measure is what is left of the line. Assumes nothing.
+-- together one more than the number. The measure is what is left of the line.
 use mathlib.Core.List.{List}
 use mathlib.Core.Path.{_≡_, sym, ap}
 use Prim.Native.Nat.{ℕ, _+_, _-_, _≤_}

@@ -1,12 +1,11 @@
 -- `examination_text::notation::until` meets its contract. The loop's invariant: no byte passed is the one looked for. The measure is what is left of the bytes.
--- Assumes nothing.
 use mathlib.Core.Bool.{true}
 use mathlib.Core.Path.{_≡_, refl, subst}
 use Prim.Native.Nat.{_-_, _≤_}
 use native.Mathlib.Omega.{arith}
 use lib.ListN.{length, take, drop}
 use Rattle.bits.specs.Range.{all}
-use Rattle.examination_text.specs.Parts.{Part}
+use Rattle.examination_text.specs.inner.Parts.{Part}
 use Rattle.examination_text.proofs.Split.{other, part-start, part-pass, part-found, part-none}
 use Rattle.examination_text.proofs.notation.until.Statement.{statement}
 use Rattle.examination_text.proofs.notation.until.Tie as tie

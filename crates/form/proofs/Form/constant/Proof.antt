@@ -1,4 +1,4 @@
--- `form::Form::constant` meets its contract: the word's lowest digit is its bit 0, the constant's. Assumes nothing.
+-- `form::Form::constant` meets its contract: the word's lowest digit is its bit 0, the constant's.
 use native.Mathlib.Omega.{arith}
 use Rattle.form.proofs.Words.{constant-word}
 use Rattle.form.proofs.Form.constant.Statement.{statement}

@@ -1,17 +1,16 @@
--- `form::Form::count` meets its contract: half the word has a one for each monomial. Assumes nothing.
-use native.Mathlib.Nat.{lt-of-le-of-lt}
+-- `form::Form::count` meets its contract: half the word has a one for each monomial.
+use mathlib.Core.Path.{_∙_}
 use native.Mathlib.Omega.{arith}
-use lib.Count.{ones-le}
-use lib.Dec.{lit<}
+use borrow.Author.Needs.{needs}
 use Rattle.form.proofs.Words.{count-word}
 use Rattle.form.proofs.Form.count.Statement.{statement}
 use Rattle.form.proofs.Form.count.Tie as tie
 
-cast-result : tie.Need-cast-result
-cast-result c = record { fits = lt-of-le-of-lt (ones-le 64 _ (omega arith)) (lit< tt) }
+ones-requires : tie.Need-ones-requires
+ones-requires c κs = search needs
 
 returns : tie.Need-returns
-returns c = count-word (c .before .args .self .word) (omega arith)
+returns c = c .ones .ensures .0 ∙ count-word (c .before .before .args .self .word) (omega arith)
 
 pub count-spec : {M : Type 1} → statement M
-count-spec = tie.close (tie.spec cast-result returns)
+count-spec = tie.close (tie.spec ones-requires returns)

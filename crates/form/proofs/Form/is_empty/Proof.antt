@@ -1,4 +1,4 @@
--- `form::Form::is_empty` meets its contract: a word that is 0 has no place, and no other has none. Assumes nothing.
+-- `form::Form::is_empty` meets its contract: a word that is 0 has no place, and no other has none.
 use mathlib.Core.Path.{sym}
 use native.Mathlib.Omega.{arith}
 use Rattle.bits.proofs.Sets.{places-none}

@@ -1,5 +1,4 @@
 -- `form::Form::pair` meets its contract: the monomials are the places of the word without its lowest digit, and these are taken lowest first.
--- Assumes nothing.
 use native.Mathlib.Nat.{lt-of-le-of-lt}
 use native.Mathlib.Omega.{arith}
 use borrow.Author.Needs.{needs}

@@ -1,4 +1,4 @@
--- `form::Form::singles` meets its contract: the mask is made of the word's bits at the six single flags. Assumes nothing.
+-- `form::Form::singles` meets its contract: the mask is made of the word's bits at the six single flags.
 use mathlib.Core.Path.{sym, _∙_}
 use Prim.Native.Nat.{_/_, _%_, _^_}
 use native.Mathlib.Omega.{arith}

@@ -1,5 +1,5 @@
 -- `replay::records::expand` is safe and ends. The invariant: the buffer keeps its length. The measure is the number of records that are left.
--- The search closes every need. Assumes nothing.
+-- The search closes every need.
 use borrow.Author.Needs.{needs}
 use lib.ListN.{length}
 use Prim.Native.Nat.{_-_}

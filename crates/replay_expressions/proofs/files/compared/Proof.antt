@@ -1,5 +1,5 @@
--- `replay_expressions::files::compared` is safe and ends. The invariant: the head keeps its 38 bytes. The measure is the number of turns that are left.
--- The search closes every need. Assumes nothing.
+-- `replay_expressions::files::compared` is safe and ends. The invariant: the head keeps its 38 bytes. The measure is the number of turns left.
+-- The search closes every need.
 use borrow.Author.Needs.{needs}
 use lib.ListN.{length}
 use mathlib.Core.Path.{_≡_}

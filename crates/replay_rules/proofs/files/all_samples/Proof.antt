@@ -1,5 +1,5 @@
 -- `replay_rules::files::all_samples` is safe and ends. The invariant: the head keeps its 15 bytes. The measure is the number of turns that are left.
--- The search closes every need. Assumes nothing.
+-- The search closes every need.
 use borrow.Author.Needs.{needs}
 use lib.ListN.{length}
 use mathlib.Core.Path.{_≡_}

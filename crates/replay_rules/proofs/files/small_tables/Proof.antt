@@ -1,5 +1,5 @@
 -- `replay_rules::files::small_tables` is safe and ends. The measure is the number of tables that are left. Nothing has to hold from turn to turn.
--- The search closes every need. Assumes nothing.
+-- The search closes every need.
 use borrow.Author.Needs.{needs}
 use Prim.Native.Nat.{_-_}
 use Rattle.replay_rules.proofs.files.small_tables.Statement.{statement}

@@ -1,12 +1,12 @@
--- `rule_text::lines::put_flags` meets its contract: the text with the number, and the newline. Assumes nothing.
+-- `rule_text::lines::put_flags` meets its contract: the text with the number, and the newline.
 use mathlib.Core.List.{List, _++_}
 use Prim.Native.Nat.{ℕ}
 use borrow.Author.Needs.{needs}
 use Rattle.rules.specs.Ascii.{ascii}
 use Rattle.rules.specs.Text.{decimal}
-use Rattle.text.specs.Put.{Room}
-use Rattle.text.proofs.Put.{put-append, room-first, room-next}
-use Rattle.rule_text.specs.Parts.{firstLine}
+use Rattle.bits.specs.Stored.{Room}
+use Rattle.bits.proofs.Stored.{stored-append, room-first, room-next}
+use Rattle.rule_text.specs.inner.Parts.{firstLine}
 use Rattle.rule_text.proofs.lines.put_flags.Statement.{statement}
 use Rattle.rule_text.proofs.lines.put_flags.Tie as tie
 
@@ -44,7 +44,7 @@ unfolding firstLine ascii
 returns c =
     let q = c .before .before in
     let p = q .before .before .before .before .before in
-    put-append {l = label (p .before .before .before .before)} (p .put-number .ensures) (q .put-text .ensures)
+    stored-append {l = label (p .before .before .before .before)} (p .put-number .ensures) (q .put-text .ensures)
 
 pub put-flags-spec : {M : Type 1} → statement M
 put-flags-spec =

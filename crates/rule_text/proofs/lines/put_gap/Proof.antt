@@ -1,14 +1,14 @@
--- `rule_text::lines::put_gap` meets its contract: nothing at place 0, and a space elsewhere. Assumes nothing.
+-- `rule_text::lines::put_gap` meets its contract: nothing at place 0, and a space elsewhere.
 use mathlib.Core.Path.{sym}
 use native.Mathlib.Omega.{arith}
 use borrow.Author.Needs.{needs}
-use Rattle.text.proofs.Put.{put-none, put-eq, room-eq}
+use Rattle.bits.proofs.Stored.{stored-none, stored-eq, room-eq}
 use Rattle.rule_text.proofs.Left.{gap-none, gap-some}
 use Rattle.rule_text.proofs.lines.put_gap.Statement.{statement}
 use Rattle.rule_text.proofs.lines.put_gap.Tie as tie
 
 returns : tie.Need-returns
-returns c = put-eq (sym (gap-none (c .before .before .args .place) (c .if1 .taken))) (put-none _ _ (omega arith))
+returns c = stored-eq (sym (gap-none (c .before .before .args .place) (c .if1 .taken))) (stored-none _ _ (omega arith))
 
 slice-aggregate-put-text : tie.Need-slice-aggregate-put-text
 slice-aggregate-put-text c = search needs
@@ -24,7 +24,7 @@ same-length c = search needs
 returns-2 : tie.Need-returns-2
 returns-2 c =
     let p = c .before .before in
-    put-eq (sym (gap-some (p .before .before .before .before .before .args .place) (omega arith))) (p .put-text .ensures)
+    stored-eq (sym (gap-some (p .before .before .before .before .before .args .place) (omega arith))) (p .put-text .ensures)
 
 pub put-gap-spec : {M : Type 1} → statement M
 put-gap-spec =

@@ -1,12 +1,12 @@
--- `rule_text::lines::put_lines` meets its contract: line one, the records, and line three from where they end. Assumes nothing.
+-- `rule_text::lines::put_lines` meets its contract: line one, the records, and line three from where they end.
 use mathlib.Core.List.{List, _++_}
 use Prim.Native.Nat.{ℕ}
 use native.Mathlib.Omega.{arith}
 use borrow.Author.Needs.{needs}
 use Rattle.rules.specs.Machine.{made}
-use Rattle.text.specs.Put.{Room}
-use Rattle.text.proofs.Put.{put-append, room-first, room-next}
-use Rattle.rule_text.specs.Parts.{shown, firstLine, lastLine, lines}
+use Rattle.bits.specs.Stored.{Room}
+use Rattle.bits.proofs.Stored.{stored-append, room-first, room-next}
+use Rattle.rule_text.specs.inner.Parts.{shown, firstLine, lastLine, lines}
 use Rattle.rule_text.proofs.Report.{length-lines}
 use Rattle.rule_text.proofs.lines.put_lines.Statement.{statement}
 use Rattle.rule_text.proofs.lines.put_lines.Tie as tie
@@ -39,7 +39,7 @@ put-costs-requires c κs =
     let q = c .before .before .before in
     let p = q .before .before .before .before in
     let s = p .before .before .before .before in
-    room-next (lastLine (s .args .cost) (s .args .raw)) (whole s) (put-append (p .put-flags .ensures) (q .put-records .ensures))
+    room-next (lastLine (s .args .cost) (s .args .raw)) (whole s) (stored-append (p .put-flags .ensures) (q .put-records .ensures))
 
 same-length : tie.Need-same-length
 same-length c = search needs
@@ -50,7 +50,7 @@ returns c =
     let r = c .before .before in
     let q = r .before .before .before .before in
     let p = q .before .before .before .before in
-    put-append (put-append (p .put-flags .ensures) (q .put-records .ensures)) (r .put-costs .ensures)
+    stored-append (stored-append (p .put-flags .ensures) (q .put-records .ensures)) (r .put-costs .ensures)
 
 pub put-lines-spec : {M : Type 1} → statement M
 put-lines-spec =

@@ -1,6 +1,5 @@
--- `rule_text::lines::put_records` meets its contract. The loop's invariant is `Left`: the records from the place on are left to print. The measure is what is left
--- of the bytes. Where bytes are left the reader finds a record. Assumes nothing.
-use mathlib.Core.Path.{sym, ap, _∙_}
+-- `rule_text::lines::put_records` meets its contract. The loop's invariant is `Left`: the records from the place on are left to print. The measure
+-- is what is left of the bytes. Where bytes are left the reader finds a record. From the laws of Left and of expr's Turn.
 use Prim.Native.Nat.{_-_}
 use native.Mathlib.Omega.{arith}
 use lib.ListN.{length}
@@ -8,10 +7,11 @@ use borrow.Author.Needs.{needs}
 use Rattle.bits.proofs.Below.{getD-below}
 use Rattle.rules.specs.Machine.{made}
 use Rattle.rules.specs.Record.{Found}
-use Rattle.expr.specs.Answers.{readingOf, kindOf}
-use Rattle.expr.proofs.Reader.{Read, read-found, read-index}
-use Rattle.text.proofs.Put.{put-length}
-use Rattle.rule_text.specs.Parts.{shown}
+use Rattle.expr.specs.Answers.{kindOf}
+use Rattle.expr.proofs.Reader.{Read, read-index}
+use Rattle.expr.proofs.Turn.{turn-found}
+use Rattle.bits.proofs.Stored.{stored-length}
+use Rattle.rule_text.specs.inner.Parts.{shown}
 use Rattle.rule_text.proofs.Left.{Left, Next, left-start, left-next, left-found, left-end, left-gap, left-kind, left-step}
 use Rattle.rule_text.proofs.lines.put_records.Statement.{statement}
 use Rattle.rule_text.proofs.lines.put_records.Tie as tie
@@ -40,7 +40,7 @@ module _ (c : tie.After-answer Inv-loop μ-loop) where
   r = record { kind = kindOf (c .answer .given .0 .0 .kind); next = c .answer .given .0 .0 .next }
 
   found : Read (start .args .flags) (start .args .expression .now) (walk .loop .place) r
-  found = read-found _ _ _ r (sym (c .before .before .read .ensures) ∙ ap readingOf (c .answer .given .1))
+  found = turn-found (c .answer .given .1) (c .before .before .step .ensures)
 
   next : Next (walk .loop .inv) r
   next = left-next (walk .loop .inv) (c .before .before .before .loop-test .taken) r found
@@ -48,11 +48,11 @@ module _ (c : tie.After-answer Inv-loop μ-loop) where
 -- where it found none, though bytes are left
 never : (c : tie.At-match-keys2 Inv-loop μ-loop) → ⊥
 never c =
-    let s = c .before .before .before .before .before .before in
-    left-found (c .before .before .before .loop .inv) (s .pre .0) (c .before .before .loop-test .taken) (c .before .read .result) (c .before .read .ensures) (c .match .keys2)
+    let told = c .before .step in
+    left-found (c .before .before .before .loop .inv) (c .before .before .loop-test .taken) (told .result) (told .ensures) (c .match .keys2)
 
-read-requires : tie.Need-read-requires Inv-loop μ-loop
-read-requires c κs = search needs
+step-requires : tie.Need-step-requires Inv-loop μ-loop
+step-requires c κs = search needs
 
 enum-known-answer : tie.Need-enum-known-answer Inv-loop μ-loop
 enum-known-answer c = search needs
@@ -85,7 +85,7 @@ loop-again c =
     left-step (walk a .loop .inv) (next a) (p .put-gap .ensures) (q .put-kind .ensures)
 
 same-length-2 : tie.Need-same-length-2 Inv-loop μ-loop
-same-length-2 c = put-length (left-end (c .before .loop .inv) (c .loop-test .left))
+same-length-2 c = stored-length (left-end (c .before .loop .inv) (c .loop-test .left))
 
 returns-2 : tie.Need-returns-2 Inv-loop μ-loop
 returns-2 c = left-end (c .before .loop .inv) (c .loop-test .left)
@@ -97,7 +97,7 @@ put-records-spec =
     Inv-loop
     μ-loop
     loop-holds
-    read-requires
+    step-requires
     enum-known-answer
     same-length
     returns

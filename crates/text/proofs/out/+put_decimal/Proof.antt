@@ -1,5 +1,5 @@
 -- The proof of the cycle of calls {put_decimal}. The measure is the number: its tens are less than a number of two or more digits. A number below ten is its
--- last digit, and another the digits of its tens and then that. Assumes nothing.
+-- last digit, and another the digits of its tens and then that.
 use mathlib.Core.List.{List, [], _∷_, _++_}
 use mathlib.Core.Path.{_≡_, sym}
 use Prim.Native.Nat.{ℕ, _+_, _/_, _%_, _<_}
@@ -8,9 +8,9 @@ use borrow.Author.Needs.{needs}
 use borrow.Fn.Kinds.{In}
 use borrow.Fn.PlainCycle.{Measures, is, falls, and}
 use Rattle.rules.specs.Text.{decimal}
-use Rattle.text.specs.Put.{Room}
+use Rattle.bits.specs.Stored.{Room}
 use Rattle.text.proofs.Decimal.{decimal-one, decimal-more}
-use Rattle.text.proofs.Put.{put-append, put-eq, room-eq, room-first, room-next}
+use Rattle.bits.proofs.Stored.{stored-append, stored-eq, room-eq, room-first, room-next}
 use Rattle.text.proofs.out.put_decimal.Reads as put-decimal
 use Rattle.text.proofs.out.put_decimal.Kinds as put-decimal-kinds
 use Rattle.text.proofs.out.+put_decimal.Lts-put_decimal as put-decimal-lts
@@ -70,7 +70,7 @@ module _ (t : ℕ) where
   same-length c = search needs
 
   returns : put-decimal-lts.Need-returns (calls t) (put-decimal-at t) put-decimal.Post
-  returns c = let p = c .before .before in put-eq (sym (one (p .before .before .before))) (p .put-text .ensures)
+  returns c = let p = c .before .before in stored-eq (sym (one (p .before .before .before))) (p .put-text .ensures)
 
   put-decimal-requires : put-decimal-lts.Need-put-decimal-requires (calls t) (put-decimal-at t) put-decimal.Post
   put-decimal-requires c κs = let i = c .before in (omega arith, room-first (last (i .before .before)) (whole i))
@@ -91,7 +91,7 @@ module _ (t : ℕ) where
   returns-2 c =
       let q = c .before .before in
       let p = q .before .before .before .before .before in
-      put-eq (sym (more (p .before .before))) (put-append (p .put-decimal .ensures) (q .put-text2 .ensures))
+      stored-eq (sym (more (p .before .before))) (stored-append (p .put-decimal .ensures) (q .put-text2 .ensures))
 
 pub +put-decimal-spec : {M : Type 1} → statement M
 +put-decimal-spec = close μ-put-decimal λ t. put-decimal-lts.spec (calls t)

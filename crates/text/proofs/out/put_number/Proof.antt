@@ -1,7 +1,7 @@
--- `text::out::put_number` meets its contract: the text and the digits from where it ends are one text. Assumes nothing.
+-- `text::out::put_number` meets its contract: the text and the digits from where it ends are one text.
 use borrow.Author.Needs.{needs}
 use Rattle.rules.specs.Text.{decimal}
-use Rattle.text.proofs.Put.{put-append, room-first, room-next}
+use Rattle.bits.proofs.Stored.{stored-append, room-first, room-next}
 use Rattle.text.proofs.out.put_number.Statement.{statement}
 use Rattle.text.proofs.out.put_number.Tie as tie
 
@@ -20,7 +20,7 @@ same-length c = search needs
 returns : tie.Need-returns
 returns c =
     let q = c .before .before in
-    put-append (q .before .before .before .before .put-text .ensures) (q .put-decimal .ensures)
+    stored-append (q .before .before .before .before .put-text .ensures) (q .put-decimal .ensures)
 
 pub put-number-spec : {M : Type 1} → statement M
 put-number-spec = tie.close (tie.spec put-text-requires put-decimal-requires same-length returns)

@@ -1,12 +1,11 @@
 -- `text::out::put_text` meets its contract. The loop's invariant: the bytes passed are written from the place on. The measure is what is left of the text.
--- Assumes nothing.
 use mathlib.Core.List.{List}
 use mathlib.Core.Path.{_≡_, refl, ap, _∙_}
 use Prim.Native.Nat.{ℕ, _+_, _-_, _≤_}
 use native.Mathlib.Omega.{arith}
 use lib.ListN.{length, getD, take, set}
 use lib.Seq.{sets, length-sets, take-all}
-use Rattle.text.proofs.Put.{stores-more}
+use Rattle.bits.proofs.Stored.{stores-more}
 use Rattle.text.proofs.out.put_text.Statement.{statement}
 use Rattle.text.proofs.out.put_text.Tie as tie
 
@@ -53,7 +52,7 @@ returns : tie.Need-returns Inv-loop μ-loop
 returns c =
     let l = c .before .loop in
     let a = c .before .before .args in
-    record { place = refl; within = omega arith; bytes = l .inv .2 ∙ ap (sets (a .out .now) (a .at)) (take-all (l .i) (a .text .now) (omega arith)) }
+    record { place = refl; within = omega arith; entries = l .inv .2 ∙ ap (sets (a .out .now) (a .at)) (take-all (l .i) (a .text .now) (omega arith)) }
 
 pub put-text-spec : {M : Type 1} → statement M
 put-text-spec =

@@ -1,4 +1,4 @@
--- `text::table::all_digits` meets its contract. The loop's invariant: all bytes passed are digits. The measure is what is left of the bytes. Assumes nothing.
+-- `text::table::all_digits` meets its contract. The loop's invariant: all bytes passed are digits. The measure is what is left of the bytes.
 use mathlib.Core.Bool.{true}
 use mathlib.Core.Path.{_≡_, refl, sym, ap, _∙_}
 use Prim.Native.Nat.{_-_, _≤_}
@@ -9,8 +9,8 @@ use denote.Ref.{now}
 use borrow.Author.Needs.{needs}
 use borrow.Author.Tests.{not-true, not-false}
 use Rattle.bits.specs.Range.{all}
-use Rattle.text.specs.Digits.{isDigit}
-use Rattle.text.proofs.Digits.{all-none, all-more, all-stop}
+use Rattle.text.specs.TableDigits.{isDigit}
+use Rattle.text.proofs.TableDigits.{all-none, all-more, all-stop}
 use Rattle.text.proofs.table.all_digits.Statement.{statement}
 use Rattle.text.proofs.table.all_digits.Tie as tie
 

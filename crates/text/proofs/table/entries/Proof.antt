@@ -1,13 +1,13 @@
 -- `text::table::entries` meets its contract. The loop's invariant: the entries of the digits passed stand at the front of the table. The measure is what is left
--- of the digits. Assumes nothing.
+-- of the digits.
 use mathlib.Core.List.{List}
 use mathlib.Core.Path.{_≡_, refl, ap, _∙_}
 use Prim.Native.Nat.{ℕ, _-_, _≤_}
 use native.Mathlib.Omega.{arith}
 use lib.ListN.{length, getD, take, set}
 use lib.Seq.{sets, length-sets, take-all}
-use Rattle.text.specs.Digits.{isDigit, values}
-use Rattle.text.proofs.Digits.{all-at, digit-byte, length-values, entries-more}
+use Rattle.text.specs.TableDigits.{isDigit, values}
+use Rattle.text.proofs.TableDigits.{all-at, digit-byte, length-values, entries-more}
 use Rattle.text.proofs.table.entries.Statement.{statement}
 use Rattle.text.proofs.table.entries.Tie as tie
 

@@ -1,4 +1,4 @@
--- `text::table::flag_count` meets its contract: each number that is matched has the flag count answered, and another number has none. Assumes nothing.
+-- `text::table::flag_count` meets its contract: each number that is matched has the flag count answered, and another number has none.
 use mathlib.Core.Path.{sym, ap}
 use Rattle.bits.specs.Range.{from, keep}
 use Rattle.rules.specs.Text.{flagsOf, firstOf}

@@ -1,4 +1,4 @@
--- `text::table::is_digit` meets its contract: its two tests are those of `isDigit`. Assumes nothing.
+-- `text::table::is_digit` meets its contract: its two tests are those of `isDigit`.
 use borrow.Author.Tests.{eq-eqb, ne-eqb}
 use Rattle.text.proofs.table.is_digit.Statement.{statement}
 use Rattle.text.proofs.table.is_digit.Tie as tie

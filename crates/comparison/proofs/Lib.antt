@@ -1,0 +1,3 @@
+pub mod Same
+pub mod Called
+pub mod Counted

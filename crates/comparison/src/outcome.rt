@@ -1,0 +1,54 @@
+// What a call answered, or is recorded to answer, as numbers.
+ghost use mathlib.Core.Path.{_≡_};
+ghost use Rattle.comparison.specs.Outcome.{results, refusal, sameOutcome};
+
+// A refusal's number, or 0, and up to four results. The first result of a refusal is its place.
+pub struct Outcome {
+    pub number: u64,
+    pub first: usize,
+    pub second: usize,
+    pub third: usize,
+    pub fourth: usize,
+}
+
+pub fn given(first: usize, second: usize, third: usize, fourth: usize) -> Outcome
+    ensures { λ r. ⌜ r ≡ results first second third fourth ⌝ }
+{
+    Outcome {
+        number: 0,
+        first,
+        second,
+        third,
+        fourth,
+    }
+}
+
+pub fn refused(number: u64, place: usize) -> Outcome
+    ensures { λ r. ⌜ r ≡ refusal number place ⌝ }
+{
+    Outcome {
+        number,
+        first: place,
+        second: 0,
+        third: 0,
+        fourth: 0,
+    }
+}
+
+// For what no whole file asks. No file records this number.
+pub fn damaged() -> Outcome
+    ensures { λ r. ⌜ r ≡ refusal 256 0 ⌝ }
+{
+    refused(256, 0)
+}
+
+// Whether two outcomes have the same number and the same results.
+pub fn is_same(one: Outcome, other: Outcome) -> bool
+    ensures { λ r. ⌜ r ≡ sameOutcome one other ⌝ }
+{
+    (one.number == other.number)
+        & (one.first == other.first)
+        & (one.second == other.second)
+        & (one.third == other.third)
+        & (one.fourth == other.fourth)
+}

@@ -1,0 +1,54 @@
+-- Laws of evaluation on paper: a refusal of the expression is evaluation's, and with the words of a setting's flags lane 0 is that setting, so the
+-- value there is evaluation's. They rest on the laws of lanes (lanes, InLanes).
+--   evaluated-refused    == a refusal of the expression is evaluation's
+--   lane-first           == lane 0 is the setting
+--   evaluated-lane       == so evaluation's answer is bit 0 of the word of values
+use mathlib.Core.Bool.{Bool, true, false}
+use mathlib.Core.List.{List}
+use mathlib.Core.Path.{_≡_, refl, ap, _∙_}
+use Prim.Native.Nat.{ℕ, _%_, _^_, _≤_, _<_}
+use native.Mathlib.Nat.{lt-of-lt-of-le}
+use native.Mathlib.Omega.{arith}
+use lib.Dec.{lit<}
+use Rattle.bits.specs.Bit.{bit, digit}
+use Rattle.bits.proofs.Bit.{digit-bit}
+use Rattle.bits.proofs.Tabulated.{getD-map-upto}
+use Rattle.rules.specs.Limits.{ruleFlags}
+use Rattle.rules.specs.Machine.{made}
+use Rattle.rules.specs.Outcome.{Outcome, gives, refuses, _then_}
+use Rattle.rules.specs.Tree.{Tree, value, cost}
+use Rattle.lanes.specs.Lanes.{lane, lanes, seen}
+use Rattle.lanes.specs.declared.Seen.{Seen}
+use Rattle.lanes.proofs.InLanes.{lane-is, bit-lanes}
+use Rattle.evaluation.specs.Values.{evaluated, flagsOf}
+
+pub evaluated-refused : (n : ℕ) (s : List ℕ) (at k p : ℕ) → made n s ≡ refuses k p → evaluated n s at ≡ refuses k p
+unfolding evaluated
+evaluated-refused n s at k p e = ap (λ (o : Outcome Tree). o then (λ t. gives (digit (value t at)))) e
+
+-- bit 0 of a digit
+low : (b : Bool) → bit (digit b) 0 ≡ b
+unfolding bit
+low true = refl
+low false = refl
+
+module _ (n at : ℕ) (few : n ≤ ruleFlags) (h : at < 2 ^ n) where
+  pub lane-first : lane n (flagsOf at) 0 ≡ at
+  unfolding flagsOf
+  lane-first =
+      lane-is n (flagsOf at) 0 at h
+      (λ i l. ap (λ (w : ℕ). bit w 0) (getD-map-upto ruleFlags (λ k. digit (bit at k)) i (lt-of-lt-of-le l few)) ∙ low (bit at i))
+
+  value-lane : (t : Tree) → digit (value t at) ≡ lanes n (flagsOf at) t % 2
+  value-lane t =
+      let is : bit (lanes n (flagsOf at) t) 0 ≡ value t at = bit-lanes n (flagsOf at) t 0 (lit< tt) ∙ ap (value t) lane-first in
+      omega (arith, ap digit is, digit-bit (lanes n (flagsOf at) t) 0)
+
+  pub evaluated-lane : (s : List ℕ) → evaluated n s at ≡ seen n s (flagsOf at) then (λ v. gives (v .values % 2))
+  unfolding evaluated seen
+  evaluated-lane s = go (made n s)
+    where
+      go : (o : Outcome Tree) → o then (λ t. gives (digit (value t at)))
+          ≡ o then (λ t. gives (record { values = lanes n (flagsOf at) t; cost = cost t })) then (λ (v : Seen). gives (v .values % 2))
+      go (gives t) = ap gives (value-lane t)
+      go (refuses k p) = refl

@@ -1,0 +1,151 @@
+// An expression at 64 settings side by side, one word for each flag: a walk over its records that answers the values in one word, and the cost of
+// the tree on the way. A tree costs one for each record, less one for each OR whose first operand is an OR. It rests on `expr`.
+use expr::Kind;
+use expr::Reading;
+use rules::BAD_END;
+use rules::FEW_OPERANDS;
+use rules::MANY_RECORDS;
+use rules::RECORD_LIMIT;
+use rules::Refusal;
+ghost use mathlib.Core.Path.{_≡_};
+ghost use Prim.Native.Nat.{_≤_, _<_};
+ghost use lib.ListN.{length};
+ghost use Rattle.rules.specs.Limits.{ruleFlags};
+ghost use Rattle.rules.specs.Outcome.{gives};
+ghost use Rattle.rules.specs.Record.{FlagBelow};
+ghost use Rattle.expr.specs.Answers.{kindOf, ended};
+ghost use Rattle.lanes.specs.Lanes.{seen, walkedOf, Within, applied, filled};
+
+// The values of an expression in all lanes, and its cost.
+pub struct Seen {
+    pub values: u64,
+    pub cost: usize,
+}
+
+pub enum Walked {
+    Values(Seen),
+    Refused(Refusal),
+}
+
+// The answer of a walk over a lent stack, or that the operands fill it.
+enum Attempt {
+    Done(Walked),
+    Full,
+}
+
+// The walk over a short stack and, for an expression that fills it, over a long one, which takes longer to clear than most expressions to walk.
+pub fn walk(flags: usize, bytes: &[u8], words: &[u64]) -> Walked
+    requires { ⌜ (flags ≤ ruleFlags) × (flags ≤ length (now words)) ⌝ }
+    ensures { λ r. ⌜ walkedOf r ≡ seen flags (now (bytes .entry)) (now (words .entry)) ⌝ }
+{
+    let mut stack = [0u64; 24];
+    let mut ors = [false; 24];
+    let attempt = walk_on(flags, bytes, words, &mut stack, &mut ors);
+    match attempt {
+        Attempt::Done(walked) => walked,
+        Attempt::Full => walk_deep(flags, bytes, words),
+    }
+}
+
+// The same for an expression that is known to fill a short stack: over one that none fills. It has an entry more than there may be records, so the
+// refusal here is never given.
+pub fn walk_deep(flags: usize, bytes: &[u8], words: &[u64]) -> Walked
+    requires { ⌜ (flags ≤ ruleFlags) × (flags ≤ length (now words)) ⌝ }
+    ensures { λ r. ⌜ walkedOf r ≡ seen flags (now (bytes .entry)) (now (words .entry)) ⌝ }
+{
+    let mut stack = [0u64; RECORD_LIMIT + 1];
+    let mut ors = [false; RECORD_LIMIT + 1];
+    let attempt = walk_on(flags, bytes, words, &mut stack, &mut ors);
+    match attempt {
+        Attempt::Done(walked) => walked,
+        Attempt::Full => refused(MANY_RECORDS, 0),
+    }
+}
+
+// The records in turn over a stack of words; beside it stands whether an entry is an OR.
+fn walk_on(
+    flags: usize,
+    bytes: &[u8],
+    words: &[u64],
+    stack: &mut [u64],
+    ors: &mut [bool],
+) -> Attempt
+    requires { ⌜ (flags ≤ ruleFlags) × (flags ≤ length (now words)) × (0 < length (now stack)) × (length (now ors) ≡ length (now stack)) ⌝ }
+    ensures { λ r. ⌜ Within (length (now (stack .entry))) (seen flags (now (bytes .entry)) (now (words .entry))) r ⌝ }
+{
+    let mut depth = 0;
+    let mut place = 0;
+    let mut count = 0;
+    let mut saved = 0;
+    while count < RECORD_LIMIT {
+        let answer = expr::step(flags, bytes, place);
+        let Reading::Found(node) = answer else {
+            let Reading::Refused(refusal) = answer else {
+                return Attempt::Done(finished(stack[0], count - saved, depth, bytes.len()));
+            };
+            return Attempt::Done(Walked::Refused(refusal));
+        };
+        let kind = node.kind;
+        let operands = expr::arity(kind);
+        if depth < operands {
+            return Attempt::Done(refused(FEW_OPERANDS, place));
+        }
+        let base = depth - operands;
+        let second = base + 1;
+        if stack.len() <= second {
+            return Attempt::Full;
+        }
+        let or = expr::is_or(kind);
+        saved = saved + ((or & ors[base]) as usize);
+        ors[base] = or;
+        stack[base] = value(kind, words, stack[base], stack[second]);
+        depth = second;
+        place = node.next;
+        count = count + 1;
+    }
+    if place < bytes.len() {
+        return Attempt::Done(refused(MANY_RECORDS, place));
+    }
+    Attempt::Done(finished(stack[0], count - saved, depth, bytes.len()))
+}
+
+fn refused(number: u64, place: usize) -> Walked
+    ensures { λ r. ⌜ r ≡ Walked.Refused (record { number = number; place = place }) ⌝ }
+{
+    Walked::Refused(Refusal { number, place })
+}
+
+// The answer at the end of the records, where one operand must be left.
+fn finished(values: u64, cost: usize, depth: usize, length: usize) -> Walked
+    ensures { λ r. ⌜ walkedOf r ≡ ended depth length (gives (record { values = values; cost = cost })) ⌝ }
+{
+    if depth == 1 {
+        return Walked::Values(Seen { values, cost });
+    }
+    refused(BAD_END, length)
+}
+
+// The lanes of a record from those of its operands; a leaf has none.
+fn value(kind: Kind, words: &[u64], first: u64, second: u64) -> u64
+    requires { ⌜ FlagBelow (length (now words)) (kindOf kind) ⌝ }
+    ensures { λ r. ⌜ r ≡ applied (now (words .entry)) (kindOf kind) first second ⌝ }
+{
+    match kind {
+        Kind::Constant(b) => all(b),
+        Kind::Variable(i) => words[i as usize],
+        Kind::And => first & second,
+        Kind::Or => first | second,
+        Kind::Xor => first ^ second,
+        Kind::Not => !first,
+    }
+}
+
+// A constant in all lanes.
+fn all(b: bool) -> u64
+    ensures { λ r. ⌜ r ≡ filled b ⌝ }
+{
+    if b {
+        return 0xffff_ffff_ffff_ffff;
+    }
+    0
+}

@@ -1,0 +1,57 @@
+-- The rows that several calls share, one by one: what a call answers where a row refuses, and that it goes on where none does.
+-- It rests on the definitions of rules' Calls alone.
+--   table-flags, -short, -complete               == rows 1 and 2, and past them
+--   coefficients-flags, -short, -stray, -clean   == rows 1, 3 and 4, and past them
+--   room-short, room-enough                      == row 5, and past it
+use mathlib.Core.Bool.{true, false}
+use mathlib.Core.List.{List}
+use mathlib.Core.Path.{_≡_}
+use Prim.Native.Nat.{ℕ, _^_, _≤_, _<_}
+use lib.ListN.{length}
+use borrow.Author.Tests.{lt-ltb, le-ltb, lt-leb, le-leb}
+use Rattle.rules.specs.Calls.{withTable, withCoefficients, withRoom}
+use Rattle.rules.specs.Coefficient.{wordCount, stray}
+use Rattle.rules.specs.Limits.{tooManyFlags, shortTable, shortCoefficients, strayCoefficient, shortOutput}
+use Rattle.rules.specs.Outcome.{Outcome, refuses}
+
+module _ {A : Type 0} (limit n : ℕ) (table : List ℕ) (rest : Outcome A) where
+  pub table-flags : limit < n → withTable limit n table rest ≡ refuses tooManyFlags 0
+  unfolding withTable
+  table-flags h = rw (lt-ltb limit n h)
+
+  module _ (few : n ≤ limit) where
+    pub table-short : length table < 2 ^ n → withTable limit n table rest ≡ refuses shortTable 0
+    unfolding withTable
+    table-short h = rw (le-ltb limit n few, lt-leb (2 ^ n) (length table) h)
+
+    pub table-complete : 2 ^ n ≤ length table → withTable limit n table rest ≡ rest
+    unfolding withTable
+    table-complete h = rw (le-ltb limit n few, le-leb (2 ^ n) (length table) h)
+
+module _ {A : Type 0} (limit n : ℕ) (ws : List ℕ) (rest : Outcome A) where
+  pub coefficients-flags : limit < n → withCoefficients limit n ws rest ≡ refuses tooManyFlags 0
+  unfolding withCoefficients
+  coefficients-flags h = rw (lt-ltb limit n h)
+
+  module _ (few : n ≤ limit) where
+    pub coefficients-short : length ws < wordCount n → withCoefficients limit n ws rest ≡ refuses shortCoefficients 0
+    unfolding withCoefficients
+    coefficients-short h = rw (le-ltb limit n few, lt-ltb (length ws) (wordCount n) h)
+
+    module _ (needed : wordCount n ≤ length ws) where
+      pub coefficients-stray : stray n ws ≡ true → withCoefficients limit n ws rest ≡ refuses strayCoefficient 0
+      unfolding withCoefficients
+      coefficients-stray e = rw (le-ltb limit n few, le-ltb (length ws) (wordCount n) needed, e)
+
+      pub coefficients-clean : stray n ws ≡ false → withCoefficients limit n ws rest ≡ rest
+      unfolding withCoefficients
+      coefficients-clean e = rw (le-ltb limit n few, le-ltb (length ws) (wordCount n) needed, e)
+
+module _ {A : Type 0} (room : ℕ) (l : List ℕ) (rest : Outcome A) where
+  pub room-short : room < length l → withRoom room l rest ≡ refuses shortOutput (length l)
+  unfolding withRoom
+  room-short h = rw (lt-ltb room (length l) h)
+
+  pub room-enough : length l ≤ room → withRoom room l rest ≡ rest
+  unfolding withRoom
+  room-enough h = rw (le-ltb room (length l) h)

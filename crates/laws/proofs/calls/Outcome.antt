@@ -1,0 +1,45 @@
+-- What a given result tells of the rows and steps before it, and what a buffer holds after it. It rests on the two constructors of an outcome and on the
+-- laws of stores and of lists with an entry for each number (bits, Stores and Tabulated).
+--   gives-same       == results of one outcome are equal
+--   refuse-gives     == a row that was passed does not hold, and the rest gave the result
+--   then-gives       == each of two steps gave a result
+--   front-written    == the first entries of a buffer are what was written there
+--   length-front     == a buffer's front tells how long it is
+--   pick, pick-gives == a choice between two outcomes: one of them gave the result
+use mathlib.Core.Bool.{Bool, true, false}
+use mathlib.Core.List.{List}
+use mathlib.Core.Path.{_≡_, refl, sym, ap, _∙_}
+use Prim.Native.Nat.{ℕ, _≤_}
+use native.Mathlib.Omega.{arith}
+use lib.ListN.{length, getD}
+use lib.Seq.{getD-take}
+use Rattle.bits.proofs.Stores.{take-sets-front}
+use Rattle.bits.proofs.Tabulated.{map-upto-of, length-map-upto}
+use Rattle.rules.specs.Outcome.{Outcome, gives, refuses, refuse, _then_, written, front}
+
+pub gives-same : {A : Type 0} {a b : A} → _≡_ {A = Outcome A} (gives a) (gives b) → a ≡ b
+gives-same e = cc
+
+pub refuse-gives : {A : Type 0} (b : Bool) (k p : ℕ) (rest : Outcome A) (a : A) → refuse b k p rest ≡ gives a → (b ≡ false) × (rest ≡ gives a)
+refuse-gives true k p rest a e = let z : _≡_ {A = ℕ} 0 1 = cc in absurd (omega arith)
+refuse-gives false k p rest a e = (refl, e)
+
+pub then-gives : {A B : Type 0} (o : Outcome A) (f : A → Outcome B) (b : B) → (o then f) ≡ gives b → (a : A) × (o ≡ gives a) × (f a ≡ gives b)
+then-gives (gives a) f b e = (a, refl, e)
+then-gives (refuses k p) f b e = let z : _≡_ {A = ℕ} 0 1 = cc in absurd (omega arith)
+
+abbrev pub pick : {A : Type 0} → Bool → A → A → A
+pick b x y = elim b [ true ↦ x | false ↦ y ]
+
+pub pick-gives : {A P : Type 0} (b : Bool) (x y : Outcome A) (a : A)
+    → (b ≡ true → x ≡ gives a → P) → (b ≡ false → y ≡ gives a → P) → pick b x y ≡ gives a → P
+pick-gives true x y a f g e = f refl e
+pick-gives false x y a f g e = g refl e
+
+pub front-written : (l out : List ℕ) → length l ≤ length out → front (length l) (written out l) ≡ l
+front-written l out h =
+    sym (map-upto-of (length l) (λ i. getD (written out l) i 0) l refl
+    (λ i k. ap (λ (x : List ℕ). getD x i 0) (sym (take-sets-front l out h)) ∙ getD-take (length l) (written out l) i 0 k))
+
+pub length-front : (k : ℕ) (out : List ℕ) → length (front k out) ≡ k
+length-front k out = length-map-upto k (λ i. getD out i 0)

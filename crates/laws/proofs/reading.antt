@@ -1,0 +1,6 @@
+pub mod RecordAt
+pub mod Run
+pub mod Stack
+pub mod ReadBack
+pub mod WellFormed
+pub mod FlagsBelow

@@ -1,0 +1,4 @@
+pub mod Mobius
+pub mod Zhegalkin
+pub mod Packed
+pub mod RoundTrip

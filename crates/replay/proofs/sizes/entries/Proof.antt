@@ -1,0 +1,20 @@
+-- `replay::sizes::entries` meets its contract: 16 flags have the most settings.
+use native.Mathlib.Omega.{arith}
+use lib.Pow.{pow-mono, shl-exact}
+use borrow.Author.Needs.{needs}
+use Rattle.replay.proofs.sizes.entries.Statement.{statement}
+use Rattle.replay.proofs.sizes.entries.Tie as tie
+
+returns : tie.Need-returns
+returns c = search needs
+
+shl-result : tie.Need-shl-result
+shl-result c = search needs
+
+returns-2 : tie.Need-returns-2
+returns-2 c =
+    let n = c .before .args .flags in
+    omega (arith, shl-exact {a = 1} 1 n 64 (omega arith) (omega arith), pow-mono {i = n} {j = 16} (omega arith))
+
+pub entries-spec : {M : Type 1} → statement M
+entries-spec = tie.close (tie.spec returns shl-result returns-2)

@@ -1,0 +1,37 @@
+-- The answers of the compiler and of the examiner in numbers.
+--   compiledOf o     == of the compiler's outcome on paper: cost, raw cost, number of records and number of bytes, or the refusal
+--   bytesAfter b o   == what a lent buffer that held b holds after it
+--   examinedOf o     == of the examiner's outcome on paper: the cost, or the refusal
+--   compiledBy a, examinedBy a   == of an answer
+use mathlib.Core.List.{List}
+use Prim.Native.Nat.{ℕ}
+use lib.ListN.{length}
+use Rattle.rules.specs.Calls as paper
+use Rattle.rules.specs.Outcome as result
+use Rattle.rules.specs.Outcome.{gives, refuses, left}
+use Rattle.compiler.specs.Answer.{bytesOf}
+use Rattle.compiler.specs.declared.Compilation.{Compilation}
+use Rattle.compiler.specs.declared.Compilation.the-variants as compilation
+use Rattle.examiner.specs.declared.Examination.{Examination}
+use Rattle.examiner.specs.declared.Examination.the-variants as examination
+use Rattle.comparison.specs.Outcome.{results, refusal}
+use Rattle.comparison.specs.declared.outcome.Outcome.{Outcome}
+
+abbrev pub compiledOf : result.Outcome paper.Compilation → Outcome
+compiledOf (gives c) = results (c .cost) (c .raw) (c .records) (length (c .bytes))
+compiledOf (refuses k p) = refusal k p
+
+abbrev pub bytesAfter : List ℕ → result.Outcome paper.Compilation → List ℕ
+bytesAfter b o = left b (bytesOf o)
+
+abbrev pub compiledBy : Compilation → Outcome
+compiledBy (compilation.Written e) = results (e .cost) (e .raw) (e .records) (e .bytes)
+compiledBy (compilation.Refused r) = refusal (r .number) (r .place)
+
+abbrev pub examinedOf : result.Outcome ℕ → Outcome
+examinedOf (gives c) = results c 0 0 0
+examinedOf (refuses k p) = refusal k p
+
+abbrev pub examinedBy : Examination → Outcome
+examinedBy (examination.Accepted c) = results c 0 0 0
+examinedBy (examination.Refused r) = refusal (r .number) (r .place)

@@ -1,0 +1,3 @@
+pub mod Truth
+pub mod Entries
+pub mod Injective

@@ -1,0 +1,2 @@
+pub mod ThirdDemand
+pub mod Contracts
