@@ -1,45 +1,62 @@
 # What can be done here; `make` alone lists it.
-.PHONY: help test papers print_rule examine_rule console bench compare unused
+.PHONY: help test pages toolchain print_rule examine_rule console guide_rules python python_test bench compare unused
 .DEFAULT_GOAL := help
 
 TABLE = 0111
 RULE = VA0 VA1 OR
-log = target/make.log
 have_rt = command -v rt >/dev/null || { echo "needs rt, the Rattle toolchain's command, on the PATH"; exit 1; }
 have_cc = command -v cc >/dev/null || { echo "needs cc, a C compiler, on the PATH"; exit 1; }
-# Long output of a step that should pass goes to a file, which is shown where it does not.
-quiet = mkdir -p target && { $(1) >$(log) 2>&1 || { tail -n 40 $(log); exit 1; }; }
+cc = cc -std=c99 -Wall -Wextra -Wpedantic -Werror -Iinclude
+valgrind = $$(command -v valgrind >/dev/null && echo valgrind -q --error-exitcode=1)
 
 help: ## list these commands
 	@sed -n 's/^\([a-z_]*\):[^#]*## /\1\t/p' $(MAKEFILE_LIST) | expand -t 14
 
-test: console papers ## prove every crate, try the must-fail edits, run the recorded cases; the last line counts them
+test: console guide_rules python_test pages ## prove every crate, try the must-fail edits, run the recorded cases and the examples; the last line counts
 	@rt fmt --check
-	@rt ci
+	@tools/progress all rt ci
 
-papers: ## see that the README's table of crates and the files that comments cite are there, where python3 is installed
+pages: ## see that the CHANGELOG tells of this version, and that the README's table of crates and the files that comments cite are there
+	@grep -q "^## $$(cat VERSION)" CHANGELOG.md || { echo "CHANGELOG.md does not tell of version $$(cat VERSION)"; exit 1; }
 	@if command -v python3 >/dev/null; then python3 tools/layers.py --check && python3 tools/citations.py; fi
 
-print_rule: ## print the expression of a rule table: TABLE=0111
+toolchain: ## see that the Rattle toolchain is there, and say where it is another than the one that this was proved with
 	@$(have_rt)
-	@$(call quiet,rt check print_rule)
+	@test "$$(rt version)" = "$$(cat TOOLCHAIN)" || echo "warning: proved with $$(cat TOOLCHAIN); this is $$(rt version), and its check decides"
+
+print_rule: toolchain ## print the expression of a rule table: TABLE=0111
+	@tools/progress print_rule rt check print_rule
 	@printf '%s\n' '$(TABLE)' | target/bin/print_rule
 
-examine_rule: ## examine a rule against its table and say the verdict in words: TABLE=0111 RULE='VA0 VA1 OR'
-	@$(have_rt)
-	@$(call quiet,rt check examine_rule)
+examine_rule: toolchain ## examine a rule against its table and say the verdict in words: TABLE=0111 RULE='VA0 VA1 OR'
+	@tools/progress examine_rule rt check examine_rule
 	@printf '%s\n' '$(TABLE)' '$(RULE)' | target/bin/examine_rule
 
-console: ## build the console's library and run the C example over include/console.h, under valgrind where that is installed
-	@$(have_rt)
+console: toolchain ## build the console's library and run the C example over include/console.h, under valgrind where that is installed
 	@$(have_cc)
-	@$(call quiet,rt staticlib console)
-	@cc -std=c99 -Wall -Wextra -Werror -Iinclude examples/console.c target/staticlib/libconsole.a -o target/console
-	@if command -v valgrind >/dev/null; then valgrind -q --error-exitcode=1 target/console; else target/console; fi >target/console.out
+	@tools/progress console rt staticlib console
+	@$(cc) examples/console.c target/staticlib/libconsole.a -o target/console
+	@$(valgrind) target/console >target/console.out
 	@cmp target/console.out examples/console.expected && cat target/console.out
 
-bench: ## measure beside the original Rust and write docs/BENCHMARK.md: RUST=folder of its sources
-	@$(have_rt)
+guide_rules: toolchain ## build the whole library for C and run the C example over include/guide_rules.h, under valgrind where that is installed
+	@$(have_cc)
+	@tools/progress guide_rules rt staticlib guide_rules
+	@if command -v c++ >/dev/null; then c++ -Wall -Wextra -Wpedantic -Werror -fsyntax-only -x c++ include/guide_rules.h; fi
+	@$(cc) examples/guide_rules.c target/staticlib/libguide_rules.a -o target/guide_rules
+	@$(valgrind) target/guide_rules >target/guide_rules.out
+	@cmp target/guide_rules.out examples/guide_rules.expected && cat target/guide_rules.out
+
+python: toolchain ## link the shared object that python/guide_rules.py loads
+	@$(have_cc)
+	@tools/progress guide_rules rt staticlib guide_rules
+	@mkdir -p target/python
+	@cc -shared -Wl,--whole-archive target/staticlib/libguide_rules.a -Wl,--no-whole-archive -o target/python/libguide_rules.so
+
+python_test: python ## run the Python module's tests, where python3 is installed
+	@if command -v python3 >/dev/null; then python3 -B -m unittest discover -s python; fi
+
+bench: toolchain ## measure beside the original Rust and write docs/BENCHMARK.md: RUST=folder of its sources
 	@bench/bench.sh "$(RUST)"
 
 compare: ## make the recorded answers anew from the original Rust and compare: RUST=folder of its sources

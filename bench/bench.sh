@@ -15,7 +15,7 @@ trap 'rm -rf "$scratch"' EXIT
 trap 'exit 1' INT TERM
 
 "$here/oracle/build.sh" "$rust" "$scratch"
-(cd "$here" && rt staticlib bench_calls >"$scratch/staticlib.log" 2>&1) || {
+(cd "$here" && rt staticlib guide_rules >"$scratch/staticlib.log" 2>&1) || {
     tail -n 5 "$scratch/staticlib.log" >&2
     exit 1
 }
@@ -23,7 +23,7 @@ rustc --edition 2021 -C opt-level=3 --crate-name bench --extern original="$scrat
     -L "$here/target/staticlib" -o "$scratch/bench" "$here/bench/main.rs"
 "$scratch/bench" >"$scratch/table.md"
 "$scratch/bench" growth >"$scratch/growth.md"
-cc -O2 -std=c99 -Wall -Wextra -Werror "$here/bench/stack.c" "$here/target/staticlib/libbench_calls.a" -o "$scratch/stack"
+cc -O2 -std=c99 -Wall -Wextra -Werror -I"$here/include" "$here/bench/stack.c" "$here/target/staticlib/libguide_rules.a" -o "$scratch/stack"
 "$scratch/stack" >"$scratch/stack.md"
 (cd "$here" && rt staticlib console >"$scratch/staticlib.log" 2>&1) || {
     tail -n 5 "$scratch/staticlib.log" >&2

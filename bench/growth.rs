@@ -69,29 +69,29 @@ pub fn print(random: &mut Random) {
     println!("|---|---|---|");
     let (mut bytes, mut words, mut masks, mut entries) = ([0u8; 963], vec![0u64; 1024], vec![0u32; 1 << 16], vec![0u64; 1 << 16]);
     over_flags("compile", &[0, 1, 2, 3, 4, 5, 6], random, |n, t| {
-        black_box(unsafe { calls::bench_compile(n, t.as_ptr(), t.len(), bytes.as_mut_ptr(), bytes.len()) });
+        black_box(calls::compile(n, t, &mut bytes));
     });
     let wide = [6, 8, 10, 12, 14, 16];
     over_flags("transform", &wide, random, |n, t| {
-        black_box(unsafe { calls::bench_transform(n, t.as_ptr(), t.len(), words.as_mut_ptr(), words.len()) });
+        black_box(calls::transform(n, t, &mut words));
     });
     // A table's entries are random bits, so its first words, packed, serve as coefficients.
     let packed = |n: usize, t: &[u64]| -> Vec<u64> { t.chunks(64).map(|c| c.iter().rev().fold(0, |w, b| w << 1 | b)).take((1 << n) / 64).collect() };
     over_flags("way back, with its input packed", &wide, random, |n, t| {
         let w = packed(n, t);
-        black_box(unsafe { calls::bench_way_back(n, w.as_ptr(), w.len(), entries.as_mut_ptr(), entries.len()) });
+        black_box(calls::way_back(n, &w, &mut entries));
     });
     over_flags("listing, with its input packed", &wide, random, |n, t| {
         let w = packed(n, t);
-        black_box(unsafe { calls::bench_listing(n, w.as_ptr(), w.len(), masks.as_mut_ptr(), masks.len()) });
+        black_box(calls::listing(n, &w, &mut masks));
     });
     over_records("costing", random, |_, b| {
-        black_box(unsafe { calls::bench_costing(6, b.as_ptr(), b.len()) });
+        black_box(calls::cost(6, b));
     });
     over_records("evaluation", random, |_, b| {
-        black_box(unsafe { calls::bench_evaluate(6, b.as_ptr(), b.len(), 37) });
+        black_box(calls::evaluate(6, b, 37));
     });
     over_records("examination", random, |t, b| {
-        black_box(unsafe { calls::bench_examine(6, t.as_ptr(), t.len(), b.as_ptr(), b.len()) });
+        black_box(calls::examine(6, t, b));
     });
 }

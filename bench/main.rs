@@ -1,10 +1,11 @@
 //! Runs the original Rust and the library on the same inputs in one process and prints, for each call, the original's time over ours.
-//! It rests on the crate `original`, which `oracle/build.sh` makes of the sources handed to it, and on the static library `bench_calls`.
+//! It rests on the crate `original`, which `oracle/build.sh` makes of the sources handed to it, and on the library's calls (`calls`).
 
 use std::hint::black_box;
 use std::sync::Arc;
 use std::time::Instant;
 
+mod calls;
 mod growth;
 
 use original::core::expr::{Expr, Kind};
@@ -12,20 +13,6 @@ use original::core::expr_cost::compute_cost;
 use original::ir::anf_cleanup::{anf_expr_cost, build_anf_expr, AnfForm};
 use original::ir::anf_transform::compute_anf;
 use original::ir::packed_anf::PackedAnf;
-
-mod calls {
-    #[link(name = "bench_calls", kind = "static")]
-    extern "C" {
-        pub fn bench_compile(flags: usize, table: *const u64, entries: usize, out: *mut u8, room: usize) -> usize;
-        pub fn bench_transform(flags: usize, table: *const u64, entries: usize, out: *mut u64, room: usize) -> u64;
-        pub fn bench_way_back(flags: usize, words: *const u64, count: usize, out: *mut u64, room: usize) -> u64;
-        pub fn bench_listing(flags: usize, words: *const u64, count: usize, out: *mut u32, room: usize) -> u64;
-        pub fn bench_raw_cost(flags: usize, words: *const u64, count: usize) -> u64;
-        pub fn bench_costing(flags: usize, bytes: *const u8, length: usize) -> u64;
-        pub fn bench_evaluate(flags: usize, bytes: *const u8, length: usize, setting: usize) -> u64;
-        pub fn bench_examine(flags: usize, table: *const u64, entries: usize, bytes: *const u8, length: usize) -> u64;
-    }
-}
 
 /// SplitMix64 of Steele, Lea and Flood (2014).
 struct Random(u64);
@@ -134,7 +121,7 @@ fn worst(n: usize, random: &mut Random) -> Vec<Vec<u64>> {
             let least = (0..5)
                 .map(|_| {
                     let start = Instant::now();
-                    black_box(unsafe { calls::bench_compile(n, t.as_ptr(), t.len(), out.as_mut_ptr(), out.len()) });
+                    black_box(calls::compile(n, &t, &mut out));
                     start.elapsed().as_nanos()
                 })
                 .min();
@@ -162,7 +149,7 @@ fn compiling(random: &mut Random) {
                 },
                 |i| {
                     let t = black_box(&tables[i]);
-                    black_box(unsafe { calls::bench_compile(n, t.as_ptr(), t.len(), out.as_mut_ptr(), out.len()) });
+                    black_box(calls::compile(n, t, &mut out));
                 },
             );
             row(&format!("compile, {n} flags"), kind, times);
@@ -183,7 +170,7 @@ fn transforming(random: &mut Random) {
             },
             |i| {
                 let t = black_box(&tables[i]);
-                black_box(unsafe { calls::bench_transform(n, t.as_ptr(), t.len(), words.as_mut_ptr(), words.len()) });
+                black_box(calls::transform(n, t, &mut words));
             },
         );
         row(&format!("transform, {n} flags"), "random", times);
@@ -207,7 +194,7 @@ fn transforming(random: &mut Random) {
             },
             |i| {
                 let w = black_box(coefficients[i].words());
-                black_box(unsafe { calls::bench_way_back(n, w.as_ptr(), w.len(), back.as_mut_ptr(), back.len()) });
+                black_box(calls::way_back(n, w, &mut back));
             },
         );
         row(&format!("way back, {n} flags"), "random", times);
@@ -227,7 +214,7 @@ fn listing(random: &mut Random) {
             },
             |i| {
                 let w = black_box(forms[i].words());
-                black_box(unsafe { calls::bench_listing(n, w.as_ptr(), w.len(), out.as_mut_ptr(), out.len()) });
+                black_box(calls::listing(n, w, &mut out));
             },
         );
         row("listing, 16 flags", kind, times);
@@ -257,7 +244,7 @@ fn expressions(random: &mut Random) {
             },
             |i| {
                 let b = black_box(&bytes[i]);
-                black_box(unsafe { calls::bench_costing(n, b.as_ptr(), b.len()) });
+                black_box(calls::cost(n, b));
             },
         );
         row(&format!("costing, {n} flags"), "random tables' expressions", times);
@@ -269,7 +256,7 @@ fn expressions(random: &mut Random) {
             },
             |i| {
                 let b = black_box(&bytes[i]);
-                black_box(unsafe { calls::bench_evaluate(n, b.as_ptr(), b.len(), i & ((1 << n) - 1)) });
+                black_box(calls::evaluate(n, b, i & ((1 << n) - 1)));
             },
         );
         row(&format!("evaluation, {n} flags"), "random tables' expressions", times);
@@ -282,7 +269,7 @@ fn expressions(random: &mut Random) {
             },
             |i| {
                 let (b, t) = (black_box(&bytes[i]), black_box(&tables[i]));
-                black_box(unsafe { calls::bench_examine(n, t.as_ptr(), t.len(), b.as_ptr(), b.len()) });
+                black_box(calls::examine(n, t, b));
             },
         );
         row(&format!("examination, {n} flags"), "random tables' expressions", times);
@@ -295,7 +282,7 @@ fn expressions(random: &mut Random) {
             },
             |i| {
                 let w = black_box(forms[i].words());
-                black_box(unsafe { calls::bench_raw_cost(n, w.as_ptr(), w.len()) });
+                black_box(calls::raw_cost(n, w));
             },
         );
         row(&format!("raw costing, {n} flags"), "random tables' coefficients", times);

@@ -1,39 +1,32 @@
 /* How much stack each of the library's calls uses: each runs on a stack of its own, painted before, and the lowest byte that changed tells. What the
-   switch to that stack takes itself is subtracted. It rests on the static library `bench_calls` and on ucontext. */
+   switch to that stack takes itself is subtracted. It rests on guide_rules.h and on ucontext. */
 #define _XOPEN_SOURCE 700
+#include "guide_rules.h"
+
 #include <stddef.h>
 #include <stdint.h>
 #include <stdio.h>
 #include <string.h>
 #include <ucontext.h>
 
-size_t bench_compile(size_t flags, const uint64_t *table, size_t entries, uint8_t *out, size_t room);
-uint64_t bench_transform(size_t flags, const uint64_t *table, size_t entries, uint64_t *out, size_t room);
-uint64_t bench_way_back(size_t flags, const uint64_t *words, size_t count, uint64_t *out, size_t room);
-uint64_t bench_listing(size_t flags, const uint64_t *words, size_t count, uint32_t *out, size_t room);
-uint64_t bench_raw_cost(size_t flags, const uint64_t *words, size_t count);
-uint64_t bench_costing(size_t flags, const uint8_t *bytes, size_t length);
-uint64_t bench_evaluate(size_t flags, const uint8_t *bytes, size_t length, size_t setting);
-uint64_t bench_examine(size_t flags, const uint64_t *table, size_t entries, const uint8_t *bytes, size_t length);
-
-enum { STACK = 1 << 18, PAINT = 0xa5, FLAGS = 16, SETTINGS = 1 << FLAGS, RECORDS = 385 };
+enum { STACK = 1 << 18, PAINT = 0xa5, FLAGS = 16, SETTINGS = 1 << FLAGS, RECORDS = GUIDE_RULES_RECORD_LIMIT };
 
 static uint8_t stack[STACK];
-static uint64_t table[SETTINGS], words[SETTINGS / 64], entries[SETTINGS];
+static uint64_t table[SETTINGS], words[SETTINGS / 64], entries[SETTINGS], answer[GUIDE_RULES_ANSWER_LIMIT];
 static uint32_t masks[SETTINGS];
-static uint8_t bytes[1200], written[963];
+static uint8_t bytes[1200], written[GUIDE_RULES_BYTE_LIMIT];
 static size_t length;
 static ucontext_t here, there;
 
 static void nothing(void) {}
-static void compile(void) { bench_compile(6, table, 64, written, sizeof written); }
-static void transform(void) { bench_transform(FLAGS, table, SETTINGS, words, SETTINGS / 64); }
-static void way_back(void) { bench_way_back(FLAGS, words, SETTINGS / 64, entries, SETTINGS); }
-static void listing(void) { bench_listing(FLAGS, words, SETTINGS / 64, masks, SETTINGS); }
-static void raw_cost(void) { bench_raw_cost(6, table, 1); }
-static void costing(void) { bench_costing(6, bytes, length); }
-static void evaluate(void) { bench_evaluate(6, bytes, length, 37); }
-static void examine(void) { bench_examine(6, table, 64, bytes, length); }
+static void compile(void) { rule_compile(6, table, 64, written, sizeof written, answer, GUIDE_RULES_ANSWER_LIMIT); }
+static void transform(void) { rule_transform(FLAGS, table, SETTINGS, words, SETTINGS / 64, answer, GUIDE_RULES_ANSWER_LIMIT); }
+static void way_back(void) { rule_way_back(FLAGS, words, SETTINGS / 64, entries, SETTINGS, answer, GUIDE_RULES_ANSWER_LIMIT); }
+static void listing(void) { rule_listing(FLAGS, words, SETTINGS / 64, masks, SETTINGS, answer, GUIDE_RULES_ANSWER_LIMIT); }
+static void raw_cost(void) { rule_raw_cost(6, table, 1, answer, GUIDE_RULES_ANSWER_LIMIT); }
+static void costing(void) { rule_cost(6, bytes, length, answer, GUIDE_RULES_ANSWER_LIMIT); }
+static void evaluate(void) { rule_evaluate(6, bytes, length, 37, answer, GUIDE_RULES_ANSWER_LIMIT); }
+static void examine(void) { rule_examine(6, table, 64, bytes, length, answer, GUIDE_RULES_ANSWER_LIMIT); }
 
 static size_t used(void (*call)(void))
 {

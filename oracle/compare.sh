@@ -75,6 +75,10 @@ python3 "$here/printed_rules.py" "$scratch/made"
 compare_paths data replay_printing/data
 compare_paths stdout replay_printing/stdout
 
+python3 "$here/examined_rules.py" "$scratch/made/examining"
+compare_paths examining/data replay_examining/data
+compare_paths examining/stdout replay_examining/stdout
+
 if python3 -c 'import sympy' >/dev/null 2>&1; then
     python3 "$here/sympy_transforms.py" "$scratch/made"
     compare replay_transforms sympy.bin

@@ -77,11 +77,12 @@ def inputs():
         yield title, line, "bad line\n"
 
 
-def main():
+def main(inputs):
+    """Writes the files of a program's inputs, for the script that is run."""
     if len(sys.argv) != 2:
-        sys.exit("use: printed_rules.py FOLDER")
+        sys.exit(f"use: {Path(sys.argv[0]).name} FOLDER")
     folder = Path(sys.argv[1])
-    (folder / "data").mkdir(exist_ok=True)
+    (folder / "data").mkdir(parents=True, exist_ok=True)
     for title, line, _ in inputs():
         (folder / "data" / title).write_bytes(line)
     (folder / "data" / "names").write_text("".join(f"{title}\n" for title, _, _ in inputs()))
@@ -89,4 +90,4 @@ def main():
 
 
 if __name__ == "__main__":
-    main()
+    main(inputs)

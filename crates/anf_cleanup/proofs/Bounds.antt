@@ -23,6 +23,7 @@ use Rattle.bits.proofs.Mask.{within-le}
 use Rattle.bits.proofs.Range.{mem-head, mem-tail}
 use Rattle.bits.proofs.Total.{total-keep-le}
 use Rattle.bits.proofs.Union.{union-mem, union-lt}
+use Rattle.rules.specs.Limits.{recordLimit}
 use Rattle.rules.specs.Cleanup.{covered, stripped, cleanup}
 use Rattle.rules.specs.Form.{cube, orChain, rawCost, literals}
 use Rattle.rules.specs.Monomial.{monomials}
@@ -46,7 +47,7 @@ module _ (f : Form) where
   pub flags-below : union (masks f) < maskCount
   flags-below = union-lt 6 (masks f) (below-masks f)
 
-  pub raw-limit : rawCost (masks f) ≤ 385
+  pub raw-limit : rawCost (masks f) ≤ recordLimit
   raw-limit = rawCost-limit 6 (masks f) (omega arith) (ascending-masks f) (below-masks f)
 
   pub covered-limit : (c : ℕ) → literals (covered c (masks f)) ≤ 193
@@ -59,14 +60,14 @@ module _ (f : Form) where
         go (masks f) (ascending-masks f) raw-limit,
       )
     where
-      go : (k : List ℕ) → Ascending k → rawCost k ≤ 385 → literals k ≤ 193
+      go : (k : List ℕ) → Ascending k → rawCost k ≤ recordLimit → literals k ≤ 193
       go [] s h = omega arith
       go (m ∷ k) s h = omega (arith, raw-literals (m ∷ k) s (omega arith))
 
-  pub cleanup-limit : cost (cleanup (masks f)) ≤ 385
+  pub cleanup-limit : cost (cleanup (masks f)) ≤ recordLimit
   cleanup-limit = le-trans (cost-cleanup (masks f) (ascending-masks f)) raw-limit
 
-  pub inner-limit : (c : ℕ) → cost (cleanup (stripped c (masks f))) ≤ 385
+  pub inner-limit : (c : ℕ) → cost (cleanup (stripped c (masks f))) ≤ recordLimit
   unfolding stripped covered
   inner-limit c =
       let l = masks f in

@@ -1,6 +1,6 @@
--- What a cleaned form costs at least, with its constant: the OR chain of the flags that occur, and 2 more for a constant 1, which every rule hands down
--- or pays for. It rests on the floor of a tree's cost (laws, Floor), on the unions of a form's parts (laws, Mentioned), on the cases of a turn (laws, Turn) and on the costs
--- of parts (laws, Cost).
+-- What a cleaned form costs at least, with its constant: the OR chain of the flags that occur, and 2 more for a constant 1, which every rule hands
+-- down or pays for. It rests on the floor of a tree's cost (laws, Floor), on the unions of a form's parts (laws, Mentioned), on the cases of a turn
+-- (laws, Turn) and on the costs of parts (laws, Cost).
 --   constant-keep      == a part that keeps the mask 0 has the form's constant
 --   literals-union     == a form has as many literals as flags that occur, or more
 --   least-cleanup      == the cleaned form of a form in which a flag occurs costs at least that
@@ -49,7 +49,8 @@ literals-union [] = omega arith
 literals-union (m ∷ l) = omega (arith, ones-or m (union l), literals-union l)
 
 module _ (l : List ℕ) (a : Ascending l) (o : 0 < union l)
-    (h : (x : List ℕ) → literals x < literals l → Ascending x → 0 < union x → floor (ones (union x)) + 2 * digit (constant x) ≤ cost (cleanup x)) where
+    (h : (x : List ℕ) → literals x < literals l → Ascending x → 0 < union x
+    → floor (ones (union x)) + 2 * digit (constant x) ≤ cost (cleanup x)) where
   abbrev Least : Tree → Type 0
   Least t = floor (ones (union l)) + 2 * digit (constant l) ≤ cost t
 

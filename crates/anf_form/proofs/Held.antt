@@ -23,6 +23,7 @@ use lib.ListN.{length, getD, length-append, length-map}
 use lib.Pow.{pow-mono}
 use borrow.Author.Tests.{ltb-true, leb-true, lt-ltb, eqb-true, eq-eqb, ne-eqb}
 use Rattle.bits.specs.Bit.{bit}
+use Rattle.bits.specs.Word.{places}
 use Rattle.bits.specs.Range.{from, upto, keep, mem, Ascending, Below}
 use Rattle.bits.proofs.Truth.{and-true-l, and-true-r, bool-ext}
 use Rattle.bits.proofs.Range.{length-from, length-keep, from-add, upto-add}
@@ -32,6 +33,7 @@ use Rattle.rules.specs.Coefficient.{wordCount, packed, stray}
 use Rattle.rules.specs.Monomial.{form, constant}
 use Rattle.laws.proofs.transform.Packed.{wordCount-small, wordCount-room, packed-at, not-stray}
 use Rattle.mask_words.specs.inner.Degree.{ofDegree}
+use Rattle.mask_words.specs.Lookup.{maskCount}
 use Rattle.anf_form.specs.Inner.{held, block, ofBlock}
 
 pub wordCount-most : (n : ℕ) → n ≤ 16 → wordCount n ≤ 1024
@@ -40,7 +42,8 @@ wordCount-most n h = let p : 2 ^ n ≤ 2 ^ 16 = pow-mono h in omega arith
 
 -- ---- one word
 
-pub block-is : (i : ℕ) (ws : List ℕ) → keep (bit (getD ws i 0)) (upto 64) ≡ block i ws
+pub block-is : (i : ℕ) (ws : List ℕ) → places maskCount (getD ws i 0) ≡ block i ws
+unfolding places
 block-is i ws =
     keep-ext (bit (getD ws i 0)) (λ j. packed ws (64 * i + j)) (upto 64) (λ j m. sym (packed-at ws i j (ltb-true j 64 (sym (mem-upto 64 j) ∙ m))))
 

@@ -1,5 +1,5 @@
--- Equal meanings have equal answers, of listing for a given lent buffer, so the equations of listing and raw costing fix what they answer. The number of
--- monomials is told from the front of the buffer.
+-- Equal meanings have equal answers, of listing for a given lent buffer, so the equations of listing and raw costing fix what they answer. The number
+-- of monomials is told from the front of the buffer.
 --   listingOf-injective  == listing's answers
 --   rawCostOf-injective  == raw costing's answers
 use mathlib.Core.List.{List}

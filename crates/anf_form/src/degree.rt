@@ -8,6 +8,7 @@ ghost use lib.ListN.{length};
 ghost use lib.Seq.{sets};
 ghost use Rattle.bits.specs.Range.{Below};
 ghost use Rattle.bits.specs.Stored.{Room, Stored};
+ghost use Rattle.rules.specs.Limits.{formFlags};
 ghost use Rattle.rules.specs.Monomial.{monomials, ordered};
 ghost use Rattle.form.specs.Masks.{masks};
 ghost use Rattle.mask_words.specs.inner.Degree.{ofDegree};
@@ -18,8 +19,7 @@ pub fn form_at(i: usize, coefficients: &[u64]) -> Form
     requires { ⌜ i < length (now coefficients) ⌝ }
     ensures { λ r. ⌜ masks r ≡ block i (now (coefficients .entry)) ⌝ }
 {
-    let word = coefficients[i];
-    Form { word }
+    Form::of_coefficients(coefficients[i])
 }
 
 // How many coefficients are 1 in the first `words` words.
@@ -36,7 +36,7 @@ pub fn count(words: usize, coefficients: &[u64]) -> usize
 
 // All monomials, by degree from 1 to `flags`, then by mask.
 pub fn list(flags: usize, words: usize, coefficients: &[u64], out: &mut [u32])
-    requires { ⌜ (flags ≤ 16) × (words ≤ length (now coefficients)) × (words ≤ 1024) ⌝ }
+    requires { ⌜ (flags ≤ formFlags) × (words ≤ length (now coefficients)) × (words ≤ 1024) ⌝ }
     requires { ⌜ Below (2 ^ flags) (held words (now coefficients)) ⌝ }
     requires { ⌜ length (monomials (held words (now coefficients))) ≤ length (now out) ⌝ }
     ensures { λ _. ⌜ now (out .exit) ≡ sets (now (out .entry)) 0 (ordered (monomials (held words (now (coefficients .entry))))) ⌝ }

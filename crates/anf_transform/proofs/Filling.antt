@@ -8,11 +8,12 @@ use Prim.Native.Nat.{ℕ, _≤_}
 use lib.ListN.{length}
 use lib.Seq.{sets}
 use Rattle.rules.specs.Outcome.{Outcome, gives, refuses, front, left}
-use Rattle.anf_transform.specs.Filled.{filledOf}
+use Rattle.anf_transform.specs.Answers.{filledOf}
 use Rattle.anf_transform.specs.declared.Filled.the-variants.{Entries, Refused}
 use Rattle.laws.proofs.calls.Outcome.{front-written}
 
-pub filled-refusal : (out : List ℕ) (o : Outcome (List ℕ)) (k p : ℕ) → o ≡ refuses k p → (filledOf out (Refused record { number = k; place = p }) ≡ o) × (out ≡ left out o)
+pub filled-refusal : (out : List ℕ) (o : Outcome (List ℕ)) (k p : ℕ) → o ≡ refuses k p
+    → (filledOf out (Refused record { number = k; place = p }) ≡ o) × (out ≡ left out o)
 filled-refusal out o k p e = (sym e, ap (left out) (sym e))
 
 pub filled-result : (out after l : List ℕ) (o : Outcome (List ℕ)) (n : ℕ) → o ≡ gives l → length l ≡ n → n ≤ length out → after ≡ sets out 0 l

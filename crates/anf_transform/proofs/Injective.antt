@@ -1,5 +1,5 @@
--- Equal meanings have equal answers, for a given lent buffer, so the equations of the transform and of the way back fix what they answer. The count is
--- told from the front of the buffer.
+-- Equal meanings have equal answers, for a given lent buffer, so the equations of the transform and of the way back fix what they answer.
+-- The count is told from the front of the buffer.
 --   filledOf-injective   == the answers of transform and way back
 use mathlib.Core.List.{List}
 use mathlib.Core.Path.{_≡_, refl, ap}
@@ -8,7 +8,7 @@ use lib.ListN.{length}
 use Rattle.bits.proofs.Injective.{told-apart}
 use Rattle.rules.specs.Outcome.{Outcome, gives, refuses}
 use Rattle.laws.proofs.calls.Outcome.{length-front}
-use Rattle.anf_transform.specs.Filled.{filledOf}
+use Rattle.anf_transform.specs.Answers.{filledOf}
 use Rattle.anf_transform.specs.declared.Filled.{Filled}
 use Rattle.anf_transform.specs.declared.Filled.the-variants.{Entries, Refused}
 

@@ -32,7 +32,8 @@ fn along_flag(words: &mut [u64], j: usize, count: usize)
 // All flags from the seventh on, `count` of them, once the words hold the XOR over subsets for the six lowest flags.
 pub fn between(words: &mut [u64], count: usize)
     requires { ⌜ (count ≤ 10) × (length (now words) ≡ 2 ^ count) ⌝ }
-    ensures { λ _. ⌜ (length (now (words .exit)) ≡ length (now (words .entry))) × ((f : ℕ → Bool) → Holds (lowest 6 f) (now (words .entry)) → Holds (lowest (6 + count) f) (now (words .exit))) ⌝ }
+    ensures { λ _. ⌜ (length (now (words .exit)) ≡ length (now (words .entry)))
+        × ((f : ℕ → Bool) → Holds (lowest 6 f) (now (words .entry)) → Holds (lowest (6 + count) f) (now (words .exit))) ⌝ }
 {
     for j in 0..count {
         along_flag(words, j, count);

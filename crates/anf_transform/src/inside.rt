@@ -19,7 +19,8 @@ pub fn transform_word(word: u64) -> u64
 
 // Each word by itself.
 pub fn inside(words: &mut [u64])
-    ensures { λ _. ⌜ Changed 0 (length (now (words .entry))) (λ i. inWord (getD (now (words .entry)) i 0)) (now (words .entry)) (now (words .exit)) ⌝ }
+    ensures { λ _. ⌜ Changed 0 (length (now (words .entry))) (λ i. inWord (getD (now (words .entry)) i 0))
+        (now (words .entry)) (now (words .exit)) ⌝ }
 {
     for i in 0..words.len() {
         words[i] = transform_word(words[i]);

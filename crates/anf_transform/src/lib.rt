@@ -18,9 +18,10 @@ ghost use lib.ListN.{length};
 ghost use Rattle.bits.specs.Bit.{digit};
 ghost use Rattle.rules.specs.Calls.{transform, wayBack};
 ghost use Rattle.rules.specs.Coefficient.{coefficient, wordCount, packed, words};
+ghost use Rattle.rules.specs.Limits.{formFlags};
 ghost use Rattle.rules.specs.Outcome.{left, written};
 ghost use Rattle.rules.specs.Table.{entry, settings};
-ghost use Rattle.anf_transform.specs.Filled.{filledOf};
+ghost use Rattle.anf_transform.specs.Answers.{filledOf};
 
 // What a call that fills a lent buffer answers: how many entries it wrote, or its refusal.
 pub enum Filled {
@@ -93,7 +94,7 @@ pub fn compute_table(flags: usize, coefficients: &[u64], out: &mut [u64]) -> Fil
 
 // The XOR over subsets of the coefficients in the words, for all flags.
 fn transform_words(flags: usize, words: &mut [u64])
-    requires { ⌜ (flags ≤ 16) × (length (now words) ≡ wordCount flags) ⌝ }
+    requires { ⌜ (flags ≤ formFlags) × (length (now words) ≡ wordCount flags) ⌝ }
     ensures { λ _. ⌜ (length (now (words .exit)) ≡ wordCount flags)
         × ((m : ℕ) → m < 2 ^ flags → packed (now (words .exit)) m ≡ coefficient flags (packed (now (words .entry))) m) ⌝ }
 {
@@ -105,7 +106,7 @@ fn transform_words(flags: usize, words: &mut [u64])
 
 // The coefficient words of a complete table, in as many words as it takes.
 fn transform_table(flags: usize, table: &[u64], out: &mut [u64])
-    requires { ⌜ (flags ≤ 16) × (2 ^ flags ≤ length (now table)) × (length (now out) ≡ wordCount flags) ⌝ }
+    requires { ⌜ (flags ≤ formFlags) × (2 ^ flags ≤ length (now table)) × (length (now out) ≡ wordCount flags) ⌝ }
     ensures { λ _. ⌜ now (out .exit) ≡ words flags (coefficient flags (entry (now (table .entry)))) ⌝ }
 {
     pack::pack(flags, table, out);
@@ -117,7 +118,7 @@ fn transform_table(flags: usize, table: &[u64], out: &mut [u64])
 
 // The values of the polynomial at all settings, 0 or 1, at the front of `out`: its words come to hold them as bits and then give way to them.
 fn transform_back(flags: usize, coefficients: &[u64], out: &mut [u64])
-    requires { ⌜ (flags ≤ 16) × (wordCount flags ≤ length (now coefficients)) × (2 ^ flags ≤ length (now out)) ⌝ }
+    requires { ⌜ (flags ≤ formFlags) × (wordCount flags ≤ length (now coefficients)) × (2 ^ flags ≤ length (now out)) ⌝ }
     ensures { λ _. ⌜ now (out .exit) ≡ written (now (out .entry))
         (map (λ s. digit (coefficient flags (packed (now (coefficients .entry))) s)) (settings flags)) ⌝ }
 {

@@ -8,6 +8,7 @@ ghost use Rattle.bits.specs.Bit.{bit, digit};
 ghost use Rattle.bits.specs.Range.{keep, upto};
 ghost use Rattle.bits.specs.Word.{word};
 ghost use Rattle.rules.specs.Coefficient.{wordCount, words, packed};
+ghost use Rattle.rules.specs.Limits.{formFlags};
 ghost use Rattle.rules.specs.Table.{entry};
 
 // How many of `settings` settings one word holds.
@@ -34,7 +35,7 @@ pub fn pack_word(table: &[u64], base: usize, count: usize) -> u64
 
 // The low bits of a complete table.
 pub fn pack(flags: usize, table: &[u64], out: &mut [u64])
-    requires { ⌜ (flags ≤ 16) × (2 ^ flags ≤ length (now table)) × (length (now out) ≡ wordCount flags) ⌝ }
+    requires { ⌜ (flags ≤ formFlags) × (2 ^ flags ≤ length (now table)) × (length (now out) ≡ wordCount flags) ⌝ }
     ensures { λ _. ⌜ now (out .exit) ≡ words flags (entry (now (table .entry))) ⌝ }
 {
     let count = per_word(packed_anf::setting_count(flags));
@@ -55,7 +56,7 @@ fn unpack_word(word: u64, out: &mut [u64], base: usize, count: usize)
 
 // The words at the front of `out` give way to an entry a bit. The last word goes first, so that none is written over before it is read.
 pub fn unpack(flags: usize, out: &mut [u64])
-    requires { ⌜ (flags ≤ 16) × (2 ^ flags ≤ length (now out)) ⌝ }
+    requires { ⌜ (flags ≤ formFlags) × (2 ^ flags ≤ length (now out)) ⌝ }
     ensures { λ _. ⌜ now (out .exit) ≡ sets (now (out .entry)) 0 (map (λ s. digit (packed (now (out .entry)) s)) (upto (2 ^ flags))) ⌝ }
 {
     let count = per_word(packed_anf::setting_count(flags));

@@ -2,6 +2,7 @@
 -- It rests on lib.Bits and lib.Pow, the library's laws of digits and powers of two.
 --   byte-digit                               == a truth value that the code casts to a number is its digit
 --   digit-le, digit-eqb, digit-is            == a digit is 1 at most; a number below 2 is its own digit; a truth value from its digit
+--   bit-digit                                == bit 0 of a digit is the truth value
 --   digit-bit, bit-first, bit-suc            == a bit by division: w / 2 ^ i % 2, the lowest bit, and the bits of the half
 --   bit-and, bit-or, bit-xor, bit-not        == the operations work on each bit apart
 --   bit-shr, bit-shl, bit-shl-low            == shifts
@@ -36,6 +37,11 @@ pub digit-eqb : (d : ℕ) → d < 2 → digit (eqb d 1) ≡ d
 digit-eqb zero h = refl
 digit-eqb (suc zero) h = refl
 digit-eqb (suc (suc d)) h = absurd (omega arith)
+
+pub bit-digit : (b : Bool) → bit (digit b) 0 ≡ b
+unfolding bit
+bit-digit true = refl
+bit-digit false = refl
 
 pub digit-is : (b : Bool) (d : ℕ) → d ≡ digit b → eqb d 1 ≡ b
 digit-is true d e = ap (λ (x : ℕ). eqb x 1) e

@@ -4,7 +4,8 @@
 --   below-ext                 == two rules' values that agree below w
 --   fixed-step                == fixed w ≡ step (below fixed w) w
 --   fixed-ind                 == induction along the measure
---   fixed-keeps               == what holds of the default, and of a turn over values of which it holds, holds of the fixed point: no measure need fall
+--   fixed-keeps               == what holds of the default, and of a turn over values of which it holds, holds of the fixed point:
+--                               no measure need fall
 use mathlib.Core.Bool.{Bool, true, false}
 use mathlib.Core.Path.{_≡_, refl, sym, ap, _∙_, fun-ext}
 use Prim.Native.Nat.{ℕ, zero, suc, _≤_, _<_}
@@ -55,7 +56,8 @@ module _ {A B : Type 0} (μ : A → ℕ) (d : B) where
     unfolding fixed turns
     fixed-step w =
         enough (μ w) (suc (μ w)) w (le-refl (μ w)) (omega arith)
-        ∙ ap (λ (f : A → B). step f w) (below-ext (turns μ d step (μ w)) (fixed μ d step) w (λ x l. enough (μ w) (μ x) x (omega arith) (le-refl (μ x))))
+        ∙ ap (λ (f : A → B). step f w)
+        (below-ext (turns μ d step (μ w)) (fixed μ d step) w (λ x l. enough (μ w) (μ x) x (omega arith) (le-refl (μ x))))
 
 pub fixed-keeps : {A B : Type 0} (μ : A → ℕ) (d : B) (step : (A → B) → A → B) (P : A → B → Type 0) → ((w : A) → P w d)
     → ((g : A → B) → ((x : A) → P x (g x)) → (w : A) → P w (step g w)) → (w : A) → P w (fixed μ d step w)

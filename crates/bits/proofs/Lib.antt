@@ -25,3 +25,4 @@ pub mod Tabulated
 pub mod Cells
 pub mod Injective
 pub mod Stored
+pub mod Copied

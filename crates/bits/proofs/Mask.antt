@@ -40,7 +40,8 @@ within-bit s m i h e = and-true-r (bit s i) (bit m i) (sym (bit-and s m i) ∙ a
 
 pub bits-within : (s m : ℕ) → ((i : ℕ) → bit s i ≡ true → bit m i ≡ true) → within s m ≡ true
 unfolding within
-bits-within s m f = eq-eqb (bitAnd s m) s (bits-eq (bitAnd s m) s (λ i. bit-and s m i ∙ &&-comm (bit s i) (bit m i) ∙ and-implied (bit m i) (bit s i) (f i)))
+bits-within s m f =
+    eq-eqb (bitAnd s m) s (bits-eq (bitAnd s m) s (λ i. bit-and s m i ∙ &&-comm (bit s i) (bit m i) ∙ and-implied (bit m i) (bit s i) (f i)))
 
 pub within-le : (s m : ℕ) → within s m ≡ true → s ≤ m
 within-le s m h = omega (arith, meet s m h, and-le-r s m)
@@ -176,7 +177,8 @@ pub ones-add : (a b : ℕ) → bitAnd a b ≡ 0 → ones (a + b) ≡ ones a + on
 unfolding ones
 ones-add = bin-ind (λ (a : ℕ). (b : ℕ) → bitAnd a b ≡ 0 → ones (a + b) ≡ ones a + ones b) (λ b e. ap ones (zero-add b) ∙ sym (zero-add (ones b))) step
   where
-    step : (a : ℕ) → ((b : ℕ) → bitAnd (a / 2) b ≡ 0 → ones (a / 2 + b) ≡ ones (a / 2) + ones b) → (b : ℕ) → bitAnd a b ≡ 0 → ones (a + b) ≡ ones a + ones b
+    step : (a : ℕ) → ((b : ℕ) → bitAnd (a / 2) b ≡ 0 → ones (a / 2 + b) ≡ ones (a / 2) + ones b)
+        → (b : ℕ) → bitAnd a b ≡ 0 → ones (a + b) ≡ ones a + ones b
     step a ih b e =
         let d = and-step a b in
         let up : bitAnd (a / 2) (b / 2) ≡ 0 = omega arith in

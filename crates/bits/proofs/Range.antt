@@ -1,4 +1,5 @@
--- Laws of ranges, of the choices from a list, and of membership. They rest on the definitions of specs/Range and the laws of truth values of proofs/Truth.
+-- Laws of ranges, of the choices from a list, and of membership.
+-- They rest on the definitions of specs/Range and the laws of truth values of proofs/Truth.
 --   length-from, getD-from, getD-upto           == a range's length and its elements
 --   from-add, from-suc, upto-add, upto-suc      == a range in two parts
 --   from-map                                    == a shifted range
@@ -265,7 +266,8 @@ unfolding same
 same-true [] [] e = refl
 same-true [] (y ∷ k) e = absurd (false≢true e)
 same-true (x ∷ l) [] e = absurd (false≢true e)
-same-true (x ∷ l) (y ∷ k) e = ap₂ {C = List ℕ} _∷_ (eqb-true x y (and-true-l (eqb x y) (same l k) e)) (same-true l k (and-true-r (eqb x y) (same l k) e))
+same-true (x ∷ l) (y ∷ k) e =
+    ap₂ {C = List ℕ} _∷_ (eqb-true x y (and-true-l (eqb x y) (same l k) e)) (same-true l k (and-true-r (eqb x y) (same l k) e))
 
 pub same-refl : (l : List ℕ) → same l l ≡ true
 unfolding same

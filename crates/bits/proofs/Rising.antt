@@ -1,5 +1,5 @@
--- Lists that rise by a strict order are settled by their members. It is stated for any order and any notion of rising that has the two laws of `Rising`;
--- ascending lists and lists in the monomial order are such. It rests on the laws of membership of proofs/Range.
+-- Lists that rise by a strict order are settled by their members. It is stated for any order and any notion of rising that has the two laws of
+-- `Rising`; ascending lists and lists in the monomial order are such. It rests on the laws of membership of proofs/Range.
 --   Rising less S    == a list with S rises by the strict order less: what is behind its first element is greater, and rises
 --   rising-ext       == two such lists with the same members are equal
 use mathlib.Core.Bool.{true, false≢true, true≢false}

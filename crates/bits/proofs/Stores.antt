@@ -1,4 +1,5 @@
--- Runs of stores into a list: one run after another, a run before a run, and a run from the front. They rest on lib.Seq, the library's laws of stores.
+-- Runs of stores into a list: one run after another, a run before a run, and a run from the front.
+-- They rest on lib.Seq, the library's laws of stores.
 --   sets-append          == a run, and another from where it ends
 --   take-sets-front      == the front holds what was stored there
 --   sets-before          == a run before a run
@@ -58,7 +59,8 @@ module _ {A : Type 0} where
       ∙ ap (λ (i : ℕ). drop i l) (sym e))
       ∙ sym (sets-front vs l k)
 
-  pub front-more : (l t : List A) (i : ℕ) (v d : A) → i < length l → i < length t → v ≡ getD t i d → take i l ≡ take i t → take (i + 1) (set l i v) ≡ take (i + 1) t
+  pub front-more : (l t : List A) (i : ℕ) (v d : A) → i < length l → i < length t → v ≡ getD t i d → take i l ≡ take i t
+      → take (i + 1) (set l i v) ≡ take (i + 1) t
   front-more l t i v d h k e f =
       ap (λ (n : ℕ). take n (set l i v)) (add-one i) ∙ take-suc-set l i v h
       ∙ ap₂ (λ (r : List A) (x : A). r ++ (x ∷ [])) f e

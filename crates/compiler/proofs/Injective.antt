@@ -1,5 +1,5 @@
--- Equal meanings have equal answers, for a given lent buffer, so the compiler's equation fixes what it answers. The count of bytes is told from the front
--- of the buffer.
+-- Equal meanings have equal answers, for a given lent buffer, so the compiler's equation fixes what it answers.
+-- The count of bytes is told from the front of the buffer.
 --   compilationOf-injective  == the compiler's answers
 use mathlib.Core.List.{List}
 use mathlib.Core.Path.{_≡_, refl, ap}
@@ -9,7 +9,7 @@ use Rattle.bits.proofs.Injective.{told-apart}
 use Rattle.rules.specs.Calls as paper
 use Rattle.rules.specs.Outcome.{Outcome, gives, refuses}
 use Rattle.laws.proofs.calls.Outcome.{length-front}
-use Rattle.compiler.specs.Answer.{compilationOf}
+use Rattle.compiler.specs.Answers.{compilationOf}
 use Rattle.compiler.specs.declared.Compilation.{Compilation}
 use Rattle.compiler.specs.declared.Compilation.the-variants.{Written, Refused}
 

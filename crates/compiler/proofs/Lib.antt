@@ -1,4 +1,3 @@
 pub mod Written
 pub mod Instance
-pub mod Copied
 pub mod Injective

@@ -33,7 +33,7 @@ use Rattle.anf_cleanup.specs.Plan.{Planned}
 use Rattle.anf_cleanup.specs.declared.Plan.{Plan}
 use Rattle.postfix.specs.Written.{Writes}
 use Rattle.postfix.specs.declared.Cursor.{Cursor}
-use Rattle.compiler.specs.Answer.{compilationOf, bytesOf}
+use Rattle.compiler.specs.Answers.{compilationOf, bytesOf}
 use Rattle.compiler.specs.Truth.{compileForm}
 use Rattle.compiler.specs.declared.Compilation.{Compilation}
 use Rattle.compiler.specs.declared.Compilation.the-variants.{Written, Refused}

@@ -1,2 +1,2 @@
-pub mod Answer
+pub mod Answers
 pub mod Truth

@@ -16,7 +16,7 @@ ghost use Rattle.rules.specs.Calls;
 ghost use Rattle.rules.specs.Limits.{ruleFlags};
 ghost use Rattle.rules.specs.Outcome.{left, written};
 ghost use Rattle.table.specs.Truth.{truth};
-ghost use Rattle.compiler.specs.Answer.{compilationOf, bytesOf};
+ghost use Rattle.compiler.specs.Answers.{compilationOf, bytesOf};
 ghost use Rattle.compiler.specs.Truth.{compileTruth};
 
 // What was written: the counts of bytes and records, the cost, and the cost of the raw form.
@@ -50,11 +50,11 @@ pub fn build_anf_expr(flags: usize, table: &[u64], out: &mut [u8]) -> Compilatio
     if table.len() < packed_anf::setting_count(flags) {
         return refused(SHORT_TABLE, 0);
     }
-    compile(flags, Table::of_entries(flags, table), out)
+    compile_table(flags, Table::of_entries(flags, table), out)
 }
 
 // The same for a table by value.
-pub fn compile(flags: usize, table: Table, out: &mut [u8]) -> Compilation
+pub fn compile_table(flags: usize, table: Table, out: &mut [u8]) -> Compilation
     requires { ⌜ flags ≤ ruleFlags ⌝ }
     ensures answer { λ r. ⌜ compilationOf (now (out .exit)) r ≡ compileTruth flags (truth table) (length (now (out .entry))) ⌝ }
     ensures lent { λ r. ⌜ now (out .exit) ≡ left (now (out .entry)) (bytesOf (compileTruth flags (truth table) (length (now (out .entry))))) ⌝ }

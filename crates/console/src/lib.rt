@@ -9,7 +9,7 @@ use rules::SHORT_TABLE;
 use rules::TOO_MANY_FLAGS;
 use table::Table;
 ghost use mathlib.Core.Path.{_≡_};
-ghost use Rattle.examiner.specs.Answer.{examinationOf};
+ghost use Rattle.examiner.specs.Answers.{examinationOf};
 ghost use Rattle.rules.specs.Calls;
 ghost use Rattle.rules.specs.Console.{entries, number, result};
 

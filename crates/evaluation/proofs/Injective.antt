@@ -4,7 +4,7 @@ use mathlib.Core.Path.{_≡_, refl}
 use Prim.Native.Nat.{ℕ}
 use Rattle.bits.proofs.Injective.{told-apart}
 use Rattle.rules.specs.Outcome.{Outcome, gives, refuses}
-use Rattle.evaluation.specs.Values.{evaluationOf}
+use Rattle.evaluation.specs.Answers.{evaluationOf}
 use Rattle.evaluation.specs.declared.Evaluation.{Evaluation}
 use Rattle.evaluation.specs.declared.Evaluation.the-variants.{Value, Refused}
 

@@ -25,9 +25,9 @@ use Rattle.rules.specs.Machine.{push, binary, unary, made}
 use Rattle.rules.specs.Outcome.{Outcome, gives, refuses, _then_}
 use Rattle.rules.specs.Record.{Found}
 use Rattle.rules.specs.Tree.{Tree, value}
-use Rattle.expr.specs.Answers.{arityOf, ended}
+use Rattle.expr.specs.Inner.{arityOf, ended}
 use Rattle.evaluation.specs.inner.Packed.{packed, repacked}
-use Rattle.evaluation.specs.Values.{evaluated}
+use Rattle.evaluation.specs.inner.OneSetting.{evaluated}
 use Rattle.expr.proofs.Reader.{Read}
 use Rattle.expr.proofs.Stack.{operand, push-enough, push-few}
 use Rattle.expr.proofs.Walk.{Walk, walk-start, walk-step, walk-stack, walk-few, walk-end}

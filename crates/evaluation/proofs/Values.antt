@@ -3,7 +3,6 @@
 --   evaluated-refused    == a refusal of the expression is evaluation's
 --   lane-first           == lane 0 is the setting
 --   evaluated-lane       == so evaluation's answer is bit 0 of the word of values
-use mathlib.Core.Bool.{Bool, true, false}
 use mathlib.Core.List.{List}
 use mathlib.Core.Path.{_≡_, refl, ap, _∙_}
 use Prim.Native.Nat.{ℕ, _%_, _^_, _≤_, _<_}
@@ -11,7 +10,7 @@ use native.Mathlib.Nat.{lt-of-lt-of-le}
 use native.Mathlib.Omega.{arith}
 use lib.Dec.{lit<}
 use Rattle.bits.specs.Bit.{bit, digit}
-use Rattle.bits.proofs.Bit.{digit-bit}
+use Rattle.bits.proofs.Bit.{digit-bit, bit-digit}
 use Rattle.bits.proofs.Tabulated.{getD-map-upto}
 use Rattle.rules.specs.Limits.{ruleFlags}
 use Rattle.rules.specs.Machine.{made}
@@ -20,24 +19,18 @@ use Rattle.rules.specs.Tree.{Tree, value, cost}
 use Rattle.lanes.specs.Lanes.{lane, lanes, seen}
 use Rattle.lanes.specs.declared.Seen.{Seen}
 use Rattle.lanes.proofs.InLanes.{lane-is, bit-lanes}
-use Rattle.evaluation.specs.Values.{evaluated, flagsOf}
+use Rattle.evaluation.specs.inner.OneSetting.{evaluated, flagsOf}
 
 pub evaluated-refused : (n : ℕ) (s : List ℕ) (at k p : ℕ) → made n s ≡ refuses k p → evaluated n s at ≡ refuses k p
 unfolding evaluated
 evaluated-refused n s at k p e = ap (λ (o : Outcome Tree). o then (λ t. gives (digit (value t at)))) e
-
--- bit 0 of a digit
-low : (b : Bool) → bit (digit b) 0 ≡ b
-unfolding bit
-low true = refl
-low false = refl
 
 module _ (n at : ℕ) (few : n ≤ ruleFlags) (h : at < 2 ^ n) where
   pub lane-first : lane n (flagsOf at) 0 ≡ at
   unfolding flagsOf
   lane-first =
       lane-is n (flagsOf at) 0 at h
-      (λ i l. ap (λ (w : ℕ). bit w 0) (getD-map-upto ruleFlags (λ k. digit (bit at k)) i (lt-of-lt-of-le l few)) ∙ low (bit at i))
+      (λ i l. ap (λ (w : ℕ). bit w 0) (getD-map-upto ruleFlags (λ k. digit (bit at k)) i (lt-of-lt-of-le l few)) ∙ bit-digit (bit at i))
 
   value-lane : (t : Tree) → digit (value t at) ≡ lanes n (flagsOf at) t % 2
   value-lane t =

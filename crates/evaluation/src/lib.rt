@@ -20,8 +20,9 @@ ghost use Rattle.bits.specs.Bit.{bit, digit};
 ghost use Rattle.rules.specs.Calls;
 ghost use Rattle.rules.specs.Limits.{ruleFlags};
 ghost use Rattle.rules.specs.Outcome.{gives};
-ghost use Rattle.expr.specs.Answers.{ended};
-ghost use Rattle.evaluation.specs.Values.{evaluationOf, evaluated, flagsOf};
+ghost use Rattle.expr.specs.Inner.{ended};
+ghost use Rattle.evaluation.specs.Answers.{evaluationOf};
+ghost use Rattle.evaluation.specs.inner.OneSetting.{evaluated, flagsOf};
 
 // A stack is full where its leading one is the highest bit: no value more fits.
 const FULL: usize = 0x8000000000000000;

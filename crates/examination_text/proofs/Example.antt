@@ -1,5 +1,5 @@
--- What the examining command writes, computed with the definitions: an accepted rule, each row that can refuse one, and input that is not two such lines. The
--- rows of the table 01 are document 01's unmarked examples.
+-- What the examining command writes, computed with the definitions: an accepted rule, each row that can refuse one, and input that is not two such
+-- lines. The rows of the table 01 are document 01's unmarked examples.
 --   accepted         == a rule that is accepted
 --   refused          == the rows 13, 12, 10, 8, 7 and 6 for the table 01, row 12 with flags set, and 10 for no record
 --   too-many         == row 9, for 386 records

@@ -1,4 +1,5 @@
--- The names of the flags that are set, one flag after another. It rests on the definitions of `named` and `flagNames` and on the laws of ranges (bits, Range).
+-- The names of the flags that are set, one flag after another.
+-- It rests on the definitions of `named` and `flagNames` and on the laws of ranges (bits, Range).
 --   flag-none, flag-some     == what is written for a flag that is not set, and for one that is
 --   flag-short               == at most two bytes
 --   named-more               == one flag more

@@ -1,5 +1,5 @@
--- What the examining command is to write, by cases: input that is too long or is not two lines, a first line that is no table, a second that is no rule, and
--- two lines that are. It rests on the definitions of specs/Input and on the parts of the input at newlines (Split).
+-- What the examining command is to write, by cases: input that is too long or is not two lines, a first line that is no table, a second that is no
+-- rule, and two lines that are. It rests on the definitions of specs/Input and on the parts of the input at newlines (Split).
 --   page-long, page-lines            == input that is too long, and other input
 --   lines-one, lines-more, lines-two == no newline before the end; the second newline is not the end; it is
 --   table-none, table-ragged, table-rule == no flag count, or no digits; a table

@@ -37,7 +37,9 @@ module _ (t : List ℕ) where
   unfolding isRecord
   record-size e =
       let s = and-true-l (sized t) (spelled t) e in
-      (leb-true 2 (length t) (and-true-l (leb 2 (length t)) (leb (length t) 3) s), leb-true (length t) 3 (and-true-r (leb 2 (length t)) (leb (length t) 3) s))
+      let low = and-true-l (leb 2 (length t)) (leb (length t) 3) s in
+      let high = and-true-r (leb 2 (length t)) (leb (length t) 3) s in
+      (leb-true 2 (length t) low, leb-true (length t) 3 high)
 
   pub length-bytes : length (recordBytes t) ≡ length t
   unfolding recordBytes

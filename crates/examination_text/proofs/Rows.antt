@@ -1,5 +1,6 @@
--- By which rows a rule can be refused for a complete table of up to six flags: 6, 7, 8, 9, 10, 12 and 13, each of which has its reason in words. The places of
--- the first four lie in the expression, so that each is that of a record. It rests on the definitions of the reader, the machine and the examiner (rules).
+-- By which rows a rule can be refused for a complete table of up to six flags: 6, 7, 8, 9, 10, 12 and 13, each of which has its reason in words. The
+-- places of the first four lie in the expression, so that each is that of a record.
+-- It rests on the definitions of the reader, the machine and the examiner (rules).
 --   Row len k p      == k is one of these rows, and p a place of it for an expression of len bytes
 --   ByRow len o      == the outcome o is a result, or a refusal by one of them
 --   examine-rows     == the examination's outcome is so

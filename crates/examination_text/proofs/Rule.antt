@@ -1,5 +1,5 @@
--- The records of a line in turn: what a walk along its parts at spaces finds at a part, and what it leaves for the next. It rests on the parts (Split) and on
--- the bytes of a record (Records).
+-- The records of a line in turn: what a walk along its parts at spaces finds at a part, and what it leaves for the next. It rests on the parts
+-- (Split) and on the bytes of a record (Records).
 --   texts-none, texts-some           == the empty line has no record; another has its parts at spaces
 --   piece l start end, rest l start  == the part from one place to another, and the parts from a place on
 --   rule-record                      == where all parts are records the first is

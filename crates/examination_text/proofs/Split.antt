@@ -1,5 +1,5 @@
--- Bytes taken apart at a byte: the part before the first of them, and the parts behind it. It rests on the definition of `split` and on the laws of tests
--- along a list (text, TableDigits).
+-- Bytes taken apart at a byte: the part before the first of them, and the parts behind it.
+-- It rests on the definition of `split` and on the laws of tests along a list (text, TableDigits).
 --   other b x            == x is another byte than b
 --   split-one, split-two == no b in the bytes: one part; a first b: the part before it, and the parts behind
 --   split-first          == there is a first part

@@ -1,5 +1,5 @@
--- What the walk that writes an expression's bytes keeps: the records from its place on are left to write, and the bytes of those before are written. It rests
--- on the records of a line (Rule) and on runs of stores (bits, Stored).
+-- What the walk that writes an expression's bytes keeps: the records from its place on are left to write, and the bytes of those before are written.
+-- It rests on the records of a line (Rule) and on runs of stores (bits, Stored).
 --   Walk                     == what the walk keeps
 --   walk-start, walk-step    == before the first record; one record more
 --   walk-room                == there is room for the record's bytes

@@ -1,8 +1,10 @@
-// The examination of a rule for people: the output of the examining command for its whole input, a line of a table's digits and a line of a rule's records.
-// It says whether the examiner accepts the rule, or in words which row of the refusal table refused it, and where. It rests on `examiner` and on `text`.
+// The examination of a rule for people: the output of the examining command for its whole input, a line of a table's digits and a line of a rule's
+// records. It says whether the examiner accepts the rule, or in words which row of the refusal table refused it, and where.
+// It rests on `examiner` and on `text`.
 mod notation;
 mod verdict;
 
+use text::PAGE_BYTES;
 use text::Page;
 use text::table::Size;
 ghost use mathlib.Core.Bool.{true};
@@ -16,7 +18,7 @@ ghost use Rattle.rules.specs.Calls.{examine};
 ghost use Rattle.rules.specs.Limits.{ruleFlags};
 ghost use Rattle.rules.specs.Text.{flagsOf};
 ghost use Rattle.text.specs.TableDigits.{isDigit, values};
-ghost use Rattle.text.specs.Page.{Shows};
+ghost use Rattle.text.specs.Page.{pageBytes, Shows};
 ghost use Rattle.examination_text.specs.Notation.{recordTexts};
 ghost use Rattle.examination_text.specs.Verdict;
 ghost use Rattle.examination_text.specs.Input.{longest, notLines, notTable, ofRule, ofTable, verdictPage};
@@ -27,12 +29,13 @@ const LONGEST: usize = 4095;
 // The page of the verdict on an expression, whose records stand in the line.
 fn verdict_page(flags: usize, table: &[u64], expression: &[u8], line: &[u8]) -> Page
     requires { ⌜ (flags ≤ ruleFlags) × (2 ^ flags ≤ length (now table)) ⌝ }
-    ensures { λ r. ⌜ Shows (Verdict.words flags (now (table .entry)) (recordTexts (now (line .entry))) (examine flags (now (table .entry)) (now (expression .entry))) ++ ascii "\n") r ⌝ }
+    ensures { λ r. ⌜ Shows (Verdict.words flags (now (table .entry)) (recordTexts (now (line .entry)))
+        (examine flags (now (table .entry)) (now (expression .entry))) ++ ascii "\n") r ⌝ }
 {
     let answer = examiner::examine(flags, table, expression);
     let mut said = [0u8; 200];
     let end = verdict::put_verdict(answer, flags, table, line, &mut said);
-    let mut bytes = [0u8; 1400];
+    let mut bytes = [0u8; PAGE_BYTES];
     let newline = text::out::put_text(&said[..end], &mut bytes, 0);
     let count = text::out::put_text(b"\n", &mut bytes, newline);
     Page { bytes, count }
@@ -49,7 +52,7 @@ fn rule_page(flags: usize, digits: &[u8], line: &[u8]) -> Page
     let count = digits.len();
     let mut table = [0u64; 64];
     text::table::entries(digits, &mut table);
-    let mut bytes = [0u8; 4095];
+    let mut bytes = [0u8; LONGEST];
     let end = notation::put_rule(line, &mut bytes);
     verdict_page(flags, &table[..count], &bytes[..end], line)
 }
@@ -85,8 +88,8 @@ fn not_lines() -> Page
 
 // The output for the whole input.
 pub fn examine_rule(input: &[u8]) -> Page
-    ensures { λ r. ⌜ (r .count ≤ 1400) × (take (r .count) (r .bytes) ≡ verdictPage (now (input .entry))) ⌝ }
-    ensures { λ r. ⌜ length (r .bytes) ≡ 1400 ⌝ }
+    ensures { λ r. ⌜ (r .count ≤ pageBytes) × (take (r .count) (r .bytes) ≡ verdictPage (now (input .entry))) ⌝ }
+    ensures { λ r. ⌜ length (r .bytes) ≡ pageBytes ⌝ }
 {
     let length = input.len();
     if LONGEST < length {

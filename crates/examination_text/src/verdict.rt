@@ -20,7 +20,7 @@ ghost use Rattle.rules.specs.Calls.{tableForm};
 ghost use Rattle.rules.specs.Form.{rawCost};
 ghost use Rattle.rules.specs.Limits.{ruleFlags};
 ghost use Rattle.rules.specs.Outcome.{refuses};
-ghost use Rattle.examiner.specs.Answer.{examinationOf};
+ghost use Rattle.examiner.specs.Answers.{examinationOf};
 ghost use Rattle.bits.specs.Stored.{Stored};
 ghost use Rattle.examination_text.specs.Notation.{recordTexts};
 ghost use Rattle.examination_text.specs.inner.Parts.{flagName};

@@ -11,10 +11,9 @@ use mathlib.Core.Option.{none}
 use mathlib.Core.Path.{_≡_, refl, sym, ap, ap₂, _∙_}
 use Prim.Native.Nat.{ℕ, _^_, _≤_, _<_}
 use lib.ListN.{length}
-use borrow.Author.Tests.{ltb-true, lt-ltb, le-ltb}
+use borrow.Author.Tests.{lt-ltb, le-ltb}
 use Rattle.bits.specs.Bit.{_⊕_}
-use Rattle.bits.specs.Range.{keep, upto}
-use Rattle.bits.proofs.Range.{keep-ext, mem-upto}
+use Rattle.bits.specs.Range.{upto}
 use Rattle.rules.specs.Calls.{withTable, tableForm, differences, judged, examine}
 use Rattle.rules.specs.Coefficient.{coefficient}
 use Rattle.rules.specs.Form.{rawCost}
@@ -22,14 +21,14 @@ use Rattle.rules.specs.Limits.{ruleFlags, tooCostly}
 use Rattle.rules.specs.Machine.{made}
 use Rattle.rules.specs.Monomial.{form}
 use Rattle.rules.specs.Outcome.{Outcome, gives, refuses, _then_}
-use Rattle.rules.specs.Table.{settings, entry}
+use Rattle.rules.specs.Table.{entry}
 use Rattle.rules.specs.Tree.{Tree, value, cost}
 use Rattle.laws.proofs.calls.Checked.{table-complete}
 use Rattle.mask_words.specs.Lookup.{flagWord}
 use Rattle.lanes.specs.Lanes.{seen}
 use Rattle.table.specs.Truth.{truth, tableOf, first}
 use Rattle.table.specs.declared.Table.{Table}
-use Rattle.table.proofs.Truth.{truth-tableOf, form-ext}
+use Rattle.table.proofs.Truth.{keep-settings, truth-tableOf, form-ext}
 use Rattle.examiner.specs.Examined.{examineTruth}
 use Rattle.examiner.specs.Inner.{verdict, judgment}
 use Rattle.examiner.proofs.Settings.{bit-values}
@@ -58,14 +57,11 @@ judged-verdict raw t (at ∷ l) = refl
 -- ---- only the values at the settings count
 
 module _ (n : ℕ) where
-  keep-settings : (p q : ℕ → Bool) → ((at : ℕ) → at < 2 ^ n → p at ≡ q at) → keep p (settings n) ≡ keep q (settings n)
-  keep-settings p q h = keep-ext p q (settings n) (λ at m. h at (ltb-true at (2 ^ n) (sym (mem-upto (2 ^ n) at) ∙ m)))
-
   pub examineTruth-ext : (f g : ℕ → Bool) (s : List ℕ) → ((at : ℕ) → at < 2 ^ n → f at ≡ g at) → examineTruth n f s ≡ examineTruth n g s
   unfolding examineTruth
   examineTruth-ext f g s h =
       then-ext (made n s) _ _ (λ t. ap₂ (λ (l d : List ℕ). judged (rawCost l) t d) (form-ext n f g h)
-      (keep-settings _ _ (λ at l. ap (λ (b : Bool). value t at ⊕ b) (h at l))))
+      (keep-settings n _ _ (λ at l. ap (λ (b : Bool). value t at ⊕ b) (h at l))))
 
   module _ (few : n ≤ ruleFlags) where
     pub examine-table : (table s : List ℕ) → 2 ^ n ≤ length table → (t : Table) → t ≡ tableOf n (entry table)
@@ -83,7 +79,7 @@ module _ (n : ℕ) where
     examine-walked ws e f s =
         let raw : ℕ = rawCost (form n (coefficient n f)) in
         then-ext (made n s) _ _ (λ t. judged-verdict raw t _ ∙ ap (λ (l : List ℕ). verdict raw (cost t) (first l))
-        (keep-settings _ _ (λ at l. ap (λ (b : Bool). b ⊕ f at) (sym (bit-values ws e n at few l t)))))
+        (keep-settings n _ _ (λ at l. ap (λ (b : Bool). b ⊕ f at) (sym (bit-values ws e n at few l t)))))
         ∙ then-then (made n s) _ _
 
 -- ---- the verdict

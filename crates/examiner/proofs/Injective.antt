@@ -4,7 +4,7 @@ use mathlib.Core.Path.{_≡_, refl}
 use Prim.Native.Nat.{ℕ}
 use Rattle.bits.proofs.Injective.{told-apart}
 use Rattle.rules.specs.Outcome.{Outcome, gives, refuses}
-use Rattle.examiner.specs.Answer.{examinationOf}
+use Rattle.examiner.specs.Answers.{examinationOf}
 use Rattle.examiner.specs.declared.Examination.{Examination}
 use Rattle.examiner.specs.declared.Examination.the-variants.{Accepted, Refused}
 

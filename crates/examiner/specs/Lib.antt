@@ -1,3 +1,3 @@
 pub mod Inner
-pub mod Answer
+pub mod Answers
 pub mod Examined

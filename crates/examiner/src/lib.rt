@@ -16,7 +16,7 @@ ghost use Prim.Native.Nat.{_≤_};
 ghost use Rattle.rules.specs.Calls;
 ghost use Rattle.rules.specs.Limits.{ruleFlags};
 ghost use Rattle.table.specs.Truth.{truth};
-ghost use Rattle.examiner.specs.Answer.{examinationOf};
+ghost use Rattle.examiner.specs.Answers.{examinationOf};
 ghost use Rattle.examiner.specs.Examined.{examineTruth};
 ghost use Rattle.examiner.specs.Inner.{verdict, judgment};
 

@@ -27,7 +27,7 @@ use Rattle.rules.specs.Outcome.{Outcome, gives, refuse, _then_}
 use Rattle.rules.specs.Record.{Kind, Constant, Flag, And, Or, Xor, Not, Found}
 use Rattle.rules.specs.Tree.{Tree, cost, size}
 use Rattle.expr.proofs.Saved.{isOr, saved, cost-saved}
-use Rattle.expr.specs.Answers.{arityOf, orOf, ended}
+use Rattle.expr.specs.Inner.{arityOf, orOf, ended}
 use Rattle.expr.proofs.Reader.{Read}
 use Rattle.expr.proofs.Stack.{node, operand, Image, total-two, total-one, total-single, image-empty}
 use Rattle.bits.proofs.Bit.{byte-digit}

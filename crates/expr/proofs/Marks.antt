@@ -21,7 +21,7 @@ use Rattle.rules.specs.Calls.{read}
 use Rattle.rules.specs.Limits.{ruleFlags, tooManyFlags, badMark}
 use Rattle.rules.specs.Outcome.{Outcome, gives, refuses, refuse, _then_}
 use Rattle.rules.specs.Record.{Constant, Flag, And, Or, Xor, Not, Found, mark, marked, plain, loaded, recordAt}
-use Rattle.expr.specs.Answers.{stepAt}
+use Rattle.expr.specs.Inner.{stepAt}
 
 module _ (n : ℕ) (s : List ℕ) (p : ℕ) where
   unfoldable pub byMark : ℕ → Outcome Found

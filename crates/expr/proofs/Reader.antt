@@ -18,7 +18,7 @@ use borrow.Author.Tests.{ltb-true, ltb-false}
 use Rattle.rules.specs.Outcome.{Outcome, gives, refuses, _then_}
 use Rattle.rules.specs.Record.{Kind, Constant, Flag, And, Or, Xor, Not, FlagBelow, Found, recordAt}
 use Rattle.laws.proofs.reading.RecordAt.{record-read}
-use Rattle.expr.specs.Answers.{stepAt}
+use Rattle.expr.specs.Inner.{stepAt}
 use Rattle.expr.specs.declared.Reading.{Reading}
 use Rattle.expr.proofs.Reading.{the-type}
 

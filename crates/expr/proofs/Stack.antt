@@ -23,7 +23,7 @@ use Rattle.bits.specs.Sum.{sum, total}
 use Rattle.rules.specs.Machine.{push, binary, unary}
 use Rattle.rules.specs.Record.{Kind, Constant, Flag, And, Or, Xor, Not}
 use Rattle.rules.specs.Tree.{Tree, CO, VA, AN, OR, XO, NO, size}
-use Rattle.expr.specs.Answers.{arityOf}
+use Rattle.expr.specs.Inner.{arityOf}
 
 abbrev pub node : Kind → Tree → Tree → Tree
 node (Constant b) x y = CO b

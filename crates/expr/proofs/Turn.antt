@@ -13,7 +13,8 @@ use Rattle.rules.specs.Limits.{recordLimit}
 use Rattle.rules.specs.Machine.{made}
 use Rattle.rules.specs.Outcome.{refuses}
 use Rattle.rules.specs.declared.Refusal.{Refusal}
-use Rattle.expr.specs.Answers.{kindOf, readingOf, stepAt}
+use Rattle.expr.specs.Answers.{kindOf, readingOf}
+use Rattle.expr.specs.Inner.{stepAt}
 use Rattle.expr.specs.declared.Node.{Node}
 use Rattle.expr.specs.declared.Reading.{Reading}
 use Rattle.expr.proofs.Reader.{Read, step-found, step-end, only-end}

@@ -24,7 +24,7 @@ use Rattle.rules.specs.Outcome.{gives, refuses}
 use Rattle.rules.specs.Record.{Kind, Found}
 use Rattle.rules.specs.Tree.{Tree, size}
 use Rattle.laws.proofs.reading.Run.{run-end, run-full, run-bad, run-few, run-read}
-use Rattle.expr.specs.Answers.{arityOf, stepAt, ended}
+use Rattle.expr.specs.Inner.{arityOf, stepAt, ended}
 use Rattle.expr.proofs.Reader.{Read, step-refused}
 use Rattle.expr.proofs.Stack.{node, operand, Image, push-enough, push-few, size-push, image-push}
 

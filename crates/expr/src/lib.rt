@@ -10,7 +10,21 @@ ghost use Prim.Native.Nat.{_+_, _*_, _^_, _≤_, _<_};
 ghost use lib.ListN.{length};
 ghost use Rattle.rules.specs.Calls;
 ghost use Rattle.rules.specs.Limits.{ruleFlags};
-ghost use Rattle.expr.specs.Answers.{readingOf, arityOf, orOf, kindOf, stepAt, constantAt, flagAt};
+ghost use Rattle.expr.specs.Answers.{readingOf, kindOf};
+ghost use Rattle.expr.specs.Inner.{arityOf, orOf, stepAt, constantAt, flagAt};
+
+// The marks: two ASCII letters as one number, the first letter high.
+const CO: u16 = 0x434f;
+
+const VA: u16 = 0x5641;
+
+const AN: u16 = 0x414e;
+
+const OR: u16 = 0x4f52;
+
+const XO: u16 = 0x584f;
+
+const NO: u16 = 0x4e4f;
 
 // What a record is, with its payload.
 pub enum Kind {
@@ -86,12 +100,12 @@ pub fn step(flags: usize, bytes: &[u8], place: usize) -> Reading
     }
     let mark = letters(bytes[place], bytes[place + 1]);
     match mark {
-        0x434f => constant(bytes, place),
-        0x5641 => variable(flags, bytes, place),
-        0x414e => operator(Kind::And, place),
-        0x4f52 => operator(Kind::Or, place),
-        0x584f => operator(Kind::Xor, place),
-        0x4e4f => operator(Kind::Not, place),
+        CO => constant(bytes, place),
+        VA => variable(flags, bytes, place),
+        AN => operator(Kind::And, place),
+        OR => operator(Kind::Or, place),
+        XO => operator(Kind::Xor, place),
+        NO => operator(Kind::Not, place),
         _ => refused(BAD_MARK, place),
     }
 }

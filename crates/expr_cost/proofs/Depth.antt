@@ -16,11 +16,11 @@ use lib.ListN.{getD}
 use Rattle.rules.specs.Limits.{recordLimit}
 use Rattle.rules.specs.Record.{Kind, Constant, Flag, And, Or, Xor, Not, Found}
 use Rattle.rules.specs.Tree.{Tree, CO, VA, AN, OR, XO, NO, size, depth}
-use Rattle.expr.specs.Answers.{arityOf}
+use Rattle.expr.specs.Inner.{arityOf}
 use Rattle.expr.proofs.Reader.{Read}
 use Rattle.expr.proofs.Walk.{Folds, grown, walk-size}
 use Rattle.expr.proofs.Costed.{Costed, costed-fold}
-use Rattle.expr_cost.specs.Answers.{deepest}
+use Rattle.expr_cost.specs.Inner.{deepest}
 
 depth-size : (t : Tree) → depth t ≤ size t
 unfolding depth size
@@ -48,7 +48,8 @@ depth-folds Or x y a b p q = omega (arith, p (lit≤ tt), q (lit≤ tt))
 depth-folds Xor x y a b p q = omega (arith, p (lit≤ tt), q (lit≤ tt))
 depth-folds Not x y a b p q = omega (arith, p (lit≤ tt))
 
-pub deepest-limit : {n : ℕ} {s : List ℕ} {entries count place deep : ℕ} {a : List ℕ} {ors : List Bool} {less : ℕ} → Costed depth n s entries count place deep a ors less
+pub deepest-limit : {n : ℕ} {s : List ℕ} {entries count place deep : ℕ} {a : List ℕ} {ors : List Bool} {less : ℕ}
+    → Costed depth n s entries count place deep a ors less
     → {r : Found} → Read n s place r → count < recordLimit → {k : ℕ} → k ≡ arityOf (r .kind) → (base : ℕ) → base + k ≡ deep
     → deepest k (getD a base 0) (getD a (base + 1) 0) ≤ recordLimit
 deepest-limit {deep = deep} {a = a} w {r} f l {k} e base h =

@@ -17,7 +17,7 @@ use Rattle.rules.specs.Limits.{ruleFlags, tooManyFlags}
 use Rattle.rules.specs.Machine.{made}
 use Rattle.rules.specs.Outcome.{Outcome, gives, refuses, _then_}
 use Rattle.rules.specs.Tree.{Tree, cost, size, depth}
-use Rattle.expr.specs.Answers.{ended}
+use Rattle.expr.specs.Inner.{ended}
 use Rattle.expr.proofs.Costed.{Costed, costed-end}
 
 abbrev pub costs : Tree → Costs
@@ -51,7 +51,8 @@ module _ (n : ℕ) (s : List ℕ) where
       go (gives t) h = cc
       go (refuses a b) h = cc
 
-pub costing-end : {n : ℕ} {s : List ℕ} {entries count place deep : ℕ} {a : List ℕ} {ors : List Bool} {less : ℕ} → Costed depth n s entries count place deep a ors less
+pub costing-end : {n : ℕ} {s : List ℕ} {entries count place deep : ℕ} {a : List ℕ} {ors : List Bool} {less : ℕ}
+    → Costed depth n s entries count place deep a ors less
     → n ≤ ruleFlags → length s ≤ place
     → {o : Outcome Costs} → o ≡ ended deep (length s) (gives (record { cost = count - less; size = count; depth = getD a 0 0 })) → o ≡ costing n s
 costing-end {n} {s} w h l e =

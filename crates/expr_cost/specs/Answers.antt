@@ -1,10 +1,8 @@
--- The answer of costing on paper, the depth of one record, and the comparison of two costs.
+-- The answer of costing on paper, and the comparison of two costs.
 --   costsOf c          == cost, size and depth
 --   costingOf r        == costing's answer: the costs, or a refusal
---   deepest k x y      == the depth of a record with k operands, from their depths, of which it uses as many as it has
 --   better c b         == by size, then depth, c is smaller than b
 use mathlib.Core.Bool.{Bool, _&&_, _||_}
-use Prim.Native.Nat.{ℕ, zero, suc, _+_, max}
 use lib.Dec.{eqb, ltb}
 use Rattle.rules.specs.Calls as paper
 use Rattle.rules.specs.Outcome.{Outcome, gives, refuses}
@@ -19,12 +17,6 @@ costsOf c = record { cost = c .cost; size = c .size; depth = c .depth }
 abbrev pub costingOf : Costing → Outcome paper.Costs
 costingOf (Known c) = gives (costsOf c)
 costingOf (Refused r) = refuses (r .number) (r .place)
-
--- "a leaf 1, an operator 1 more than its deepest operand"
-abbrev pub deepest : ℕ → ℕ → ℕ → ℕ
-deepest zero x y = 1
-deepest (suc zero) x y = x + 1
-deepest (suc (suc k)) x y = max x y + 1
 
 -- "if its (size, depth) is smaller"
 unfoldable pub better : paper.Costs → paper.Costs → Bool

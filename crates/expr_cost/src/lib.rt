@@ -11,10 +11,12 @@ use rules::TOO_MANY_FLAGS;
 ghost use mathlib.Core.Path.{_≡_};
 ghost use Prim.Native.Nat.{_-_, _^_, _≤_, _<_, max};
 ghost use Rattle.rules.specs.Calls;
+ghost use Rattle.rules.specs.Calls.{cheaperOf};
 ghost use Rattle.rules.specs.Limits.{ruleFlags};
 ghost use Rattle.rules.specs.Outcome.{gives};
-ghost use Rattle.expr.specs.Answers.{ended};
-ghost use Rattle.expr_cost.specs.Answers.{costsOf, costingOf, deepest, better};
+ghost use Rattle.expr.specs.Inner.{ended};
+ghost use Rattle.expr_cost.specs.Answers.{costsOf, costingOf, better};
+ghost use Rattle.expr_cost.specs.Inner.{deepest};
 ghost use Rattle.expr_cost.specs.Part.{emptyPart, cheaperPart};
 
 pub struct Costs {
@@ -120,23 +122,44 @@ fn larger(x: u16, y: u16) -> u16
     x
 }
 
-// The second slice if its expression is smaller by size, then depth; else the first; where the flag count or either expression is refused, the empty
-// part at the front of the first, of which only the ghost name is left free.
-pub fn cheaper<'a>(flags: usize, first: &'a [u8], second: &'a [u8]) -> &'a [u8]
-    ensures { λ r. ⌜ r ≡ cheaperPart flags (first .entry) (second .entry) (r .name) ⌝ }
+// Which of two expressions is the cheaper.
+pub enum Which {
+    First,
+    Second,
+    // The flag count or one of the two is refused.
+    Neither,
+}
+
+// The second if it is smaller by size, then depth; else the first.
+pub fn compare(flags: usize, first: &[u8], second: &[u8]) -> Which
+    ensures { λ r. ⌜ r ≡ cheaperOf Which.Neither Which.First Which.Second
+        (Calls.parse flags (now (first .entry))) (Calls.parse flags (now (second .entry))) ⌝ }
 {
     let one = compute_cost(flags, first);
     let Costing::Known(a) = one else {
-        return empty(first);
+        return Which::Neither;
     };
     let other = compute_cost(flags, second);
     let Costing::Known(b) = other else {
-        return empty(first);
+        return Which::Neither;
     };
     if is_better(b, a) {
-        return second;
+        return Which::Second;
     }
-    first
+    Which::First
+}
+
+// The slice of the cheaper one; where the flag count or either expression is refused, the empty part at the front of the first, of which only the
+// ghost name is left free.
+pub fn cheaper<'a>(flags: usize, first: &'a [u8], second: &'a [u8]) -> &'a [u8]
+    ensures { λ r. ⌜ r ≡ cheaperPart flags (first .entry) (second .entry) (r .name) ⌝ }
+{
+    let which = compare(flags, first, second);
+    match which {
+        Which::First => first,
+        Which::Second => second,
+        Which::Neither => empty(first),
+    }
 }
 
 // The part at the front of a slice that holds nothing.

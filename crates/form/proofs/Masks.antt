@@ -1,13 +1,11 @@
 -- The masks of a form ascend and are masks of six flags. It rests on words as sets of places (bits, Word).
 --   ascending-masks, below-masks     == they ascend, and each is below the count of masks
---   masks-bits                       == they are the places of the word's ones
 --   few-masks                        == so they are no more than that
-use mathlib.Core.Path.{_≡_, refl}
 use Prim.Native.Nat.{_≤_}
 use native.Mathlib.Omega.{arith}
 use lib.ListN.{length}
 use Rattle.bits.specs.Bit.{bit}
-use Rattle.bits.specs.Range.{upto, keep, Ascending, Below}
+use Rattle.bits.specs.Range.{upto, Ascending, Below}
 use Rattle.bits.specs.Word.{places}
 use Rattle.bits.proofs.Range.{length-from, length-keep}
 use Rattle.bits.proofs.Word.{ascending-places, below-places}
@@ -21,10 +19,6 @@ module _ (f : Form) where
 
   pub below-masks : Below maskCount (masks f)
   below-masks = below-places 64 (f .word)
-
-  pub masks-bits : masks f ≡ keep (bit (f .word)) (upto maskCount)
-  unfolding places
-  masks-bits = refl
 
   pub few-masks : length (masks f) ≤ maskCount
   unfolding places

@@ -3,7 +3,8 @@
 use mathlib.Core.List.{List}
 use Prim.Native.Nat.{ℕ}
 use Rattle.bits.specs.Word.{places}
+use Rattle.mask_words.specs.Lookup.{maskCount}
 use Rattle.form.specs.declared.Form.{Form}
 
 abbrev pub masks : Form → List ℕ
-masks f = places 64 (f .word)
+masks f = places maskCount (f .word)

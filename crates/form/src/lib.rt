@@ -12,6 +12,7 @@ ghost use Rattle.bits.specs.Bit.{bit, within, digit};
 ghost use Rattle.bits.specs.Range.{any, keep, mem};
 ghost use Rattle.bits.specs.Stored.{Room, Stored};
 ghost use Rattle.bits.specs.Sum.{union};
+ghost use Rattle.bits.specs.Word.{places};
 ghost use Rattle.rules.specs.Cleanup as paper;
 ghost use Rattle.rules.specs.Form as raw;
 ghost use Rattle.rules.specs.Monomial as monomial;
@@ -30,6 +31,13 @@ pub struct Pair {
 }
 
 impl Form {
+    // The form of one word of coefficients.
+    pub fn of_coefficients(word: u64) -> Form
+        ensures { λ r. ⌜ masks r ≡ places maskCount word ⌝ }
+    {
+        Form { word }
+    }
+
     // How many masks there are, the constant's too.
     pub fn size(self) -> usize
         ensures { λ r. ⌜ (r ≡ length (masks self)) × (r ≤ maskCount) ⌝ }

@@ -24,12 +24,13 @@ use Rattle.rules.specs.Machine.{made}
 use Rattle.rules.specs.Outcome.{Outcome, gives, refuses, _then_}
 use Rattle.rules.specs.Record.{Kind, Constant, Flag, And, Or, Xor, Not, FlagBelow, Found}
 use Rattle.rules.specs.Tree.{Tree, CO, VA, AN, OR, XO, NO, value, cost}
-use Rattle.expr.specs.Answers.{arityOf, orOf, ended}
+use Rattle.expr.specs.Inner.{arityOf, orOf, ended}
 use Rattle.expr.proofs.Costed.{Costed, costed-step, costed-end}
 use Rattle.expr.proofs.Reader.{Read, read-index}
 use Rattle.expr.proofs.Walk.{Folds}
 use Rattle.lanes.specs.declared.Seen.{Seen}
-use Rattle.lanes.specs.Lanes.{lane, lanes, filled, applied, seen}
+use Rattle.lanes.specs.Lanes.{lane, lanes, seen}
+use Rattle.lanes.specs.Inner.{filled, applied}
 
 module _ (n : ℕ) (ws : List ℕ) where
   bit-lane : (i j : ℕ) → i < n → bit (lane n ws j) i ≡ bit (getD ws i 0) j

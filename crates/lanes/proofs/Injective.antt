@@ -3,7 +3,7 @@
 use mathlib.Core.Path.{_≡_, refl}
 use Rattle.bits.proofs.Injective.{told-apart}
 use Rattle.rules.specs.Outcome.{Outcome, gives, refuses}
-use Rattle.lanes.specs.Lanes.{walkedOf}
+use Rattle.lanes.specs.Answers.{walkedOf}
 use Rattle.lanes.specs.declared.Seen.{Seen}
 use Rattle.lanes.specs.declared.Walked.{Walked}
 use Rattle.lanes.specs.declared.Walked.the-variants.{Values, Refused}

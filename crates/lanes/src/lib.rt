@@ -13,8 +13,11 @@ ghost use lib.ListN.{length};
 ghost use Rattle.rules.specs.Limits.{ruleFlags};
 ghost use Rattle.rules.specs.Outcome.{gives};
 ghost use Rattle.rules.specs.Record.{FlagBelow};
-ghost use Rattle.expr.specs.Answers.{kindOf, ended};
-ghost use Rattle.lanes.specs.Lanes.{seen, walkedOf, Within, applied, filled};
+ghost use Rattle.expr.specs.Answers.{kindOf};
+ghost use Rattle.expr.specs.Inner.{ended};
+ghost use Rattle.lanes.specs.Lanes.{seen};
+ghost use Rattle.lanes.specs.Answers.{walkedOf};
+ghost use Rattle.lanes.specs.Inner.{Within, applied, filled};
 
 // The values of an expression in all lanes, and its cost.
 pub struct Seen {

@@ -3,13 +3,14 @@
 ghost use mathlib.Core.Path.{_≡_};
 ghost use Prim.Native.Nat.{_/_, _%_, _<_, _≤_, _^_};
 ghost use lib.ListN.{length};
+ghost use Rattle.rules.specs.Limits.{formFlags};
 ghost use Rattle.bits.specs.Bit.{digit};
 ghost use Rattle.rules.specs.Coefficient.{wordCount, packed, stray};
 ghost use Rattle.packed_anf.specs.Raised.{Raised};
 
 // How many settings that many flags have.
 pub fn setting_count(flags: usize) -> usize
-    requires { ⌜ flags ≤ 16 ⌝ }
+    requires { ⌜ flags ≤ formFlags ⌝ }
     ensures { λ r. ⌜ r ≡ 2 ^ flags ⌝ }
 {
     1 << flags
@@ -17,7 +18,7 @@ pub fn setting_count(flags: usize) -> usize
 
 // How many words the coefficients of that many flags take.
 pub fn word_count(flags: usize) -> usize
-    requires { ⌜ flags ≤ 16 ⌝ }
+    requires { ⌜ flags ≤ formFlags ⌝ }
     ensures { λ r. ⌜ r ≡ wordCount flags ⌝ }
 {
     (setting_count(flags) + 63) / 64
@@ -25,7 +26,7 @@ pub fn word_count(flags: usize) -> usize
 
 // Whether a coefficient at 2 ^ flags or above is 1 in the words of that many flags. Only with fewer than six flags is there room for one.
 pub fn is_stray(flags: usize, words: &[u64]) -> bool
-    requires { ⌜ (flags ≤ 16) × (wordCount flags ≤ length (now words)) ⌝ }
+    requires { ⌜ (flags ≤ formFlags) × (wordCount flags ≤ length (now words)) ⌝ }
     ensures { λ r. ⌜ r ≡ stray flags (now (words .entry)) ⌝ }
 {
     if 5 < flags {

@@ -1,5 +1,5 @@
--- A chain written at a cursor, lowest flag first: the first flag's record, then for each further flag its record and the operator's mark. It rests on the
--- bytes of a chain (Chains) and on the laws of runs (Put).
+-- A chain written at a cursor, lowest flag first: the first flag's record, then for each further flag its record and the operator's mark. It rests on
+-- the bytes of a chain (Chains) and on the laws of runs (Put).
 --   leaf                                     == a flag's record
 --   Links mark w a b out after               == each flag of w was written with the mark after it
 --   links-none, links-more                   == no flag, and the lowest flag before the others
@@ -65,7 +65,8 @@ module _ (mark : List ℕ) (w : ℕ) (p : 0 < w) (h : w < 2 ^ 64) where
       pub room-links : Room (chained mark (flags w)) a out → Room (linked mark (flags others)) b mid
       room-links r = room-next (linked mark (flags others)) (omega arith) (room-eq chain r) f
 
-      pub puts-chain : {c : Cursor} {after : List ℕ} → Links mark others b c mid after → Put (chained mark (flags w)) (2 * length (flags w) - 1) a c out after
+      pub puts-chain : {c : Cursor} {after : List ℕ} → Links mark others b c mid after
+          → Put (chained mark (flags w)) (2 * length (flags w) - 1) a c out after
       puts-chain g =
           put-eq (sym chain) (omega (arith, ap length (flags-lowest w p h))) (put-append f g)
 

@@ -1,5 +1,5 @@
--- The balanced fold of a part of a list of masks, as its halves: no term, one term, and more. It rests on the fold's own laws (laws, Parts) and on the
--- library's laws of parts of a list.
+-- The balanced fold of a part of a list of masks, as its halves: no term, one term, and more.
+-- It rests on the fold's own laws (laws, Parts) and on the library's laws of parts of a list.
 --   rest-fewer, rest-within                == what is left beside a half
 --   terms l from count                     == the products of count masks of l from `from` on
 --   terms-none, terms-one, terms-halves    == their fold
@@ -56,7 +56,9 @@ module _ (l : List ℕ) (from count : ℕ) where
 
   pub terms-one : from < length l → count ≡ 1 → folded (terms l from count) ≡ cube (getD l from 0)
   terms-one h e =
-      ap (λ (k : ℕ). folded (terms l from k)) e ∙ ap (λ (r : List ℕ). folded (map cube (take 1 r))) (drop-cons l from 0 h) ∙ folded-one (cube (getD l from 0))
+      ap (λ (k : ℕ). folded (terms l from k)) e
+      ∙ ap (λ (r : List ℕ). folded (map cube (take 1 r))) (drop-cons l from 0 h)
+      ∙ folded-one (cube (getD l from 0))
 
   module _ (h : from + count ≤ length l) where
     abbrev half : ℕ

@@ -141,7 +141,8 @@ pub fn put_absorption(
     out: &mut [u8],
     at: Cursor,
 ) -> Cursor
-    requires { ⌜ (constant < 2) × (first ≤ second) × Room (write (atop (eqb constant 1) (AN (cube first) (NO (cube (second - first)))))) at (now out) ⌝ }
+    requires { ⌜ (constant < 2) × (first ≤ second)
+        × Room (write (atop (eqb constant 1) (AN (cube first) (NO (cube (second - first)))))) at (now out) ⌝ }
     ensures { λ r. ⌜ Writes (atop (eqb constant 1) (AN (cube first) (NO (cube (second - first))))) at r (now (out .entry)) (now (out .exit)) ⌝ }
 {
     if constant == 0 {

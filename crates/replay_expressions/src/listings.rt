@@ -41,7 +41,8 @@ fn told(answer: Listing) -> Outcome
 
 // The listing call with the outcome that it must have and the whole buffer that it must leave. `out` holds the pattern.
 fn lists_as(flags: usize, words: &[u64], out: &mut [u32], expected: Outcome, left: &[u32]) -> bool
-    ensures { λ r. ⌜ Compared (Calls.listing flags (now (words .entry)) (length (now (out .entry)))) (now (out .exit)) expected (now (left .entry)) r ⌝ }
+    ensures { λ r. ⌜ Compared (Calls.listing flags (now (words .entry)) (length (now (out .entry))))
+        (now (out .exit)) expected (now (left .entry)) r ⌝ }
 {
     let answer = from_anf_coeffs(flags, words, out);
     is_same(told(answer), expected) & masks::are_same(out, left)

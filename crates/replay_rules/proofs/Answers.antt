@@ -5,10 +5,10 @@ use mathlib.Core.Path.{_≡_, refl}
 use Prim.Native.Nat.{ℕ}
 use lib.ListN.{getD}
 use Rattle.bits.proofs.Tabulated.{length-map-upto}
-use Rattle.compiler.specs.Answer.{compilationOf}
+use Rattle.compiler.specs.Answers.{compilationOf}
 use Rattle.compiler.specs.declared.Compilation.{Compilation}
 use Rattle.compiler.specs.declared.Compilation.the-variants as compilation
-use Rattle.examiner.specs.Answer.{examinationOf}
+use Rattle.examiner.specs.Answers.{examinationOf}
 use Rattle.examiner.specs.declared.Examination.{Examination}
 use Rattle.examiner.specs.declared.Examination.the-variants as examination
 use Rattle.replay_rules.specs.Answers.{compiledOf, compiledBy, examinedOf, examinedBy}

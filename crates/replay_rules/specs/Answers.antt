@@ -9,7 +9,7 @@ use lib.ListN.{length}
 use Rattle.rules.specs.Calls as paper
 use Rattle.rules.specs.Outcome as result
 use Rattle.rules.specs.Outcome.{gives, refuses, left}
-use Rattle.compiler.specs.Answer.{bytesOf}
+use Rattle.compiler.specs.Answers.{bytesOf}
 use Rattle.compiler.specs.declared.Compilation.{Compilation}
 use Rattle.compiler.specs.declared.Compilation.the-variants as compilation
 use Rattle.examiner.specs.declared.Examination.{Examination}

@@ -35,7 +35,8 @@ pub fn compiles_to(
     expected: Outcome,
     left: &[u8],
 ) -> bool
-    ensures { λ r. ⌜ r ≡ comesTo compiledOf bytesAfter (paper.compile flags (now (table .entry)) (length (now (out .entry)))) (now (out .entry)) expected (now (left .entry)) ⌝ }
+    ensures { λ r. ⌜ r ≡ comesTo compiledOf bytesAfter (paper.compile flags (now (table .entry)) (length (now (out .entry))))
+        (now (out .entry)) expected (now (left .entry)) ⌝ }
 {
     let answer = build_anf_expr(flags, table, out);
     outcome::is_same(compiled(answer), expected) & check::same(out, left)

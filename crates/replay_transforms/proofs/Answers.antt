@@ -5,7 +5,7 @@ use mathlib.Core.Path.{_≡_, refl}
 use Prim.Native.Nat.{ℕ}
 use lib.ListN.{getD}
 use Rattle.bits.proofs.Tabulated.{length-map-upto}
-use Rattle.anf_transform.specs.Filled.{filledOf}
+use Rattle.anf_transform.specs.Answers.{filledOf}
 use Rattle.anf_transform.specs.declared.Filled.{Filled}
 use Rattle.anf_transform.specs.declared.Filled.the-variants.{Entries, Refused}
 use Rattle.replay_transforms.specs.Answers.{outcomeOf, numbersOf}

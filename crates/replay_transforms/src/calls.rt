@@ -33,7 +33,8 @@ pub fn transforms_to(
     expected: Outcome,
     left: &[u64],
 ) -> bool
-    ensures { λ r. ⌜ r ≡ comesTo outcomeOf paper.left (transform flags (now (table .entry)) (length (now (out .entry)))) (now (out .entry)) expected (now (left .entry)) ⌝ }
+    ensures { λ r. ⌜ r ≡ comesTo outcomeOf paper.left (transform flags (now (table .entry)) (length (now (out .entry))))
+        (now (out .entry)) expected (now (left .entry)) ⌝ }
 {
     let answer = compute_anf(flags, table, out);
     outcome::is_same(told(answer), expected) & words::are_same(out, left)
@@ -46,7 +47,8 @@ pub fn goes_back_to(
     expected: Outcome,
     left: &[u64],
 ) -> bool
-    ensures { λ r. ⌜ r ≡ comesTo outcomeOf paper.left (wayBack flags (now (coefficients .entry)) (length (now (entries .entry)))) (now (entries .entry)) expected (now (left .entry)) ⌝ }
+    ensures { λ r. ⌜ r ≡ comesTo outcomeOf paper.left (wayBack flags (now (coefficients .entry)) (length (now (entries .entry))))
+        (now (entries .entry)) expected (now (left .entry)) ⌝ }
 {
     let answer = compute_table(flags, coefficients, entries);
     outcome::is_same(told(answer), expected) & words::are_same(entries, left)

@@ -1,5 +1,5 @@
--- What the compiler's answer for a complete table of up to six flags tells of the page. It rests on the compiler's contract, and on what the compiler writes being
--- printable (Report).
+-- What the compiler's answer for a complete table of up to six flags tells of the page.
+-- It rests on the compiler's contract, and on what the compiler writes being printable (Report).
 --   Answered n table after r     == r is the compiler's answer for the table, and after what its 963 bytes of room then hold
 --   never-refused                == the compiler does not refuse
 --   count-told                   == what it wrote is within the room
@@ -15,7 +15,7 @@ use Rattle.bits.proofs.Tabulated.{length-map-upto, map-upto-of}
 use Rattle.rules.specs.Calls as Calls
 use Rattle.rules.specs.Calls.{tableForm, compiled, compilation, compile}
 use Rattle.rules.specs.Form.{rawCost}
-use Rattle.rules.specs.Limits.{ruleFlags}
+use Rattle.rules.specs.Limits.{ruleFlags, byteLimit}
 use Rattle.rules.specs.Machine.{made}
 use Rattle.rules.specs.Outcome.{gives}
 use Rattle.rules.specs.Text.{report}
@@ -24,7 +24,7 @@ use Rattle.rules.specs.declared.Refusal.{Refusal}
 use Rattle.laws.proofs.cost.Fits.{length-compiled}
 use Rattle.laws.proofs.calls.Outcome.{gives-same}
 use Rattle.rules.specs.Outcome.{front}
-use Rattle.compiler.specs.Answer.{compilationOf}
+use Rattle.compiler.specs.Answers.{compilationOf}
 use Rattle.compiler.specs.declared.Compilation.{Compilation}
 use Rattle.compiler.specs.declared.Expression.{Expression}
 use Rattle.rule_text.specs.inner.Parts.{shown, lines, Printable}
@@ -36,8 +36,8 @@ front-take k l h = map-upto-of k (λ i. getD l i 0) (take k l) (length-take-le k
 pub record Answered (n : ℕ) (table after : List ℕ) (r : Compilation) : Type 0 where
   pub flags : n ≤ ruleFlags
   pub complete : 2 ^ n ≤ length table
-  pub room : length after ≡ 963
-  pub told : compilationOf after r ≡ compile n table 963
+  pub room : length after ≡ byteLimit
+  pub told : compilationOf after r ≡ compile n table byteLimit
 
 module _ {n : ℕ} {table after : List ℕ} {r : Compilation} (a : Answered n table after r) where
   gave : compilationOf after r ≡ gives (compilation (compiled n table) (tableForm n table))
@@ -50,7 +50,8 @@ module _ {n : ℕ} {table after : List ℕ} {r : Compilation} (a : Answered n ta
       omega arith
 
   module _ (x : Expression) (q : r ≡ Compilation.Written x) where
-    parts : record { bytes = front (x .bytes) after; records = x .records; cost = x .cost; raw = x .raw } ≡ compilation (compiled n table) (tableForm n table)
+    parts : record { bytes = front (x .bytes) after; records = x .records; cost = x .cost; raw = x .raw }
+        ≡ compilation (compiled n table) (tableForm n table)
     parts = gives-same (sym (ap (compilationOf after) q) ∙ gave)
 
     cost-told : x .cost ≡ cost (compiled n table)

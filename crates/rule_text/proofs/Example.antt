@@ -12,7 +12,9 @@ use Rattle.bits.specs.Sum.{sum}
 use Rattle.bits.specs.Word.{places, word}
 use Rattle.rules.specs.Ascii.{ascii}
 use Rattle.rules.specs.Calls.{compiled, tableForm}
-use Rattle.rules.specs.Cleanup.{family, atop, better, greatest, singles, isFamily, isPartial, bestFamily, partialAt, partialOr, meets, covered, stripped, isCube, cubeSaving, bestCube, withRest, cubeAt, commonCube, absorb, absorption, cheaper, contest, turn, cleanup}
+use Rattle.rules.specs.Cleanup.{family, atop, better, greatest, singles, isFamily, isPartial, bestFamily, partialAt, partialOr}
+use Rattle.rules.specs.Cleanup.{meets, covered, stripped, isCube, cubeSaving, bestCube, withRest, cubeAt, commonCube}
+use Rattle.rules.specs.Cleanup.{absorb, absorption, cheaper, contest, turn, cleanup}
 use Rattle.rules.specs.Coefficient.{coefficient, wordCount, wordOf, words}
 use Rattle.rules.specs.Form.{chain, halves, rawForm, termCost, rawCost}
 use Rattle.rules.specs.Monomial.{form, precedes, insert, ordered}

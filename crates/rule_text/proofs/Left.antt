@@ -27,7 +27,8 @@ use Rattle.rules.specs.Tree.{Tree}
 use Rattle.laws.proofs.calls.Outcome.{gives-same}
 use Rattle.laws.proofs.reading.RecordAt.{bytesOf, bytesOf-long, drop-past, record-at}
 use Rattle.laws.proofs.reading.WellFormed.{made-is}
-use Rattle.expr.specs.Answers.{readingOf, stepAt}
+use Rattle.expr.specs.Answers.{readingOf}
+use Rattle.expr.specs.Inner.{stepAt}
 use Rattle.expr.specs.declared.Reading.{Reading}
 use Rattle.expr.proofs.Reader.{Read, step-end, step-refused}
 use Rattle.expr.proofs.Reading.{the-type}

@@ -1,5 +1,5 @@
--- What the printing program is to write, by cases: input that is no line of a rule, and input that is. It rests on the definitions of rules' Text and on
--- the flag count of a line's digits (text, FlagCount).
+-- What the printing program is to write, by cases: input that is no line of a rule, and input that is. It rests on the definitions of rules' Text and
+-- on the flag count of a line's digits (text, FlagCount).
 --   line-empty, line-long, line-last == no line is empty, and a line ends in a newline
 --   line-digits, line-all            == input that ends in a newline is a line where all before it are digits
 --   printed-other, printed-ragged    == no flag count, or no line: the complaint

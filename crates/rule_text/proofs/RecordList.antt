@@ -1,5 +1,5 @@
--- A tree as the list of its records, in the order in which they are written: its bytes and its printed text are those of the records in turn. It rests on
--- the definitions of `write` and `records`.
+-- A tree as the list of its records, in the order in which they are written: its bytes and its printed text are those of the records in turn. It
+-- rests on the definitions of `write` and `records`.
 --   kinds t                      == the records of the tree, postfix
 --   each f ks                    == f of each record, one after another
 --   spaced k                     == a space and the record's text

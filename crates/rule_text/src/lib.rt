@@ -5,6 +5,7 @@ mod lines;
 
 use compiler::Compilation;
 use rules::BYTE_LIMIT;
+use text::PAGE_BYTES;
 use text::Page;
 use text::table::Size;
 ghost use mathlib.Core.Bool.{true};
@@ -17,7 +18,7 @@ ghost use Rattle.rules.specs.Limits.{ruleFlags};
 ghost use Rattle.rules.specs.Machine.{made};
 ghost use Rattle.rules.specs.Text.{report, printed};
 ghost use Rattle.text.specs.TableDigits.{isDigit, values};
-ghost use Rattle.text.specs.Page.{Shows};
+ghost use Rattle.text.specs.Page.{pageBytes, Shows};
 ghost use Rattle.rule_text.specs.inner.Parts.{shown, lines, Printable};
 
 // The page for input that is no line of a rule.
@@ -32,7 +33,7 @@ fn rule_page(flags: usize, expression: &[u8], cost: usize, raw: usize) -> Page
     requires { ⌜ Printable flags (now expression) cost raw ⌝ }
     ensures { λ r. ⌜ Shows (lines flags (shown (made flags (now (expression .entry)))) cost raw) r ⌝ }
 {
-    let mut bytes = [0u8; 1400];
+    let mut bytes = [0u8; PAGE_BYTES];
     let count = lines::put_lines(flags, expression, cost, raw, &mut bytes);
     Page { bytes, count }
 }
@@ -56,8 +57,8 @@ fn table_page(flags: usize, digits: &[u8]) -> Page
 
 // The output for the whole input.
 pub fn print_rule(input: &[u8]) -> Page
-    ensures { λ r. ⌜ (r .count ≤ 1400) × (take (r .count) (r .bytes) ≡ printed (now (input .entry))) ⌝ }
-    ensures { λ r. ⌜ length (r .bytes) ≡ 1400 ⌝ }
+    ensures { λ r. ⌜ (r .count ≤ pageBytes) × (take (r .count) (r .bytes) ≡ printed (now (input .entry))) ⌝ }
+    ensures { λ r. ⌜ length (r .bytes) ≡ pageBytes ⌝ }
 {
     if !line::is_line(input) {
         return bad_line();

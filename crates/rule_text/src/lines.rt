@@ -8,6 +8,7 @@ ghost use Rattle.rules.specs.Machine.{made, WellFormed};
 ghost use Rattle.rules.specs.Record.{FlagBelow};
 ghost use Rattle.expr.specs.Answers.{kindOf};
 ghost use Rattle.bits.specs.Stored.{Room, Stored};
+ghost use Rattle.text.specs.Page.{pageBytes};
 ghost use Rattle.rule_text.specs.inner.Parts.{gap, kindText, shown, firstLine, lastLine, lines, Printable};
 
 // A record's mark, and its payload as a digit.
@@ -76,7 +77,7 @@ fn put_costs(cost: usize, raw: usize, out: &mut [u8], at: usize) -> usize
 
 // The three lines of a rule, at the front of the buffer.
 pub fn put_lines(flags: usize, expression: &[u8], cost: usize, raw: usize, out: &mut [u8]) -> usize
-    requires { ⌜ Printable flags (now expression) cost raw × (1400 ≤ length (now out)) ⌝ }
+    requires { ⌜ Printable flags (now expression) cost raw × (pageBytes ≤ length (now out)) ⌝ }
     ensures { λ r. ⌜ Stored (lines flags (shown (made flags (now (expression .entry)))) cost raw) 0 r (now (out .entry)) (now (out .exit)) ⌝ }
 {
     let records = put_flags(flags, out, 0);

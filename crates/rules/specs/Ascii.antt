@@ -1,4 +1,5 @@
 -- Text as the bytes of its ASCII letters.
+--   ascii t      == the letters' numbers, in turn
 use mathlib.Core.List.{List, [] as []ᴸ, _∷_ as _∷ᴸ_}
 use Prim.Native.Char.{code}
 use Prim.Native.Nat.{ℕ}

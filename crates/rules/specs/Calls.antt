@@ -1,4 +1,15 @@
--- The calls of document 01 on paper: each makes its checks "down the table", one line a row, and then gives its result.
+-- The calls of document 01 on paper, that is, as mathematics over lists and numbers: each makes its checks "down the table", one line a row, and then
+-- gives its result. n is the flag count, room what the lent buffer has in its own entries.
+--   withTable limit n table rest         == rows 1 and 2, then the rest
+--   withCoefficients limit n ws rest     == rows 1, 3 and 4, then the rest
+--   withRoom room l rest                 == row 5, then the rest; fill room l gives l itself
+--   transform n table room, wayBack n ws room      == the coefficient words of a table, and the table of coefficients
+--   listing n ws room, rawCosting n ws             == the constant and the monomials in their order, and the raw form's cost
+--   compile n table room                 == the compiler: the bytes of `compiled n table` with their counts and costs
+--   read n s p, parse n s                == the record at a place, and the tree of all records
+--   evaluate n s at, costing n s         == the value at a setting, and cost, size and depth
+--   cheaperOfTwo n a b                   == the cheaper of two expressions, or nothing; cheaperOf chooses alike of whatever stands for the two
+--   examine n table s                    == the examiner: the cost, or the first refusal
 use mathlib.Core.Bool.{Bool, true, false, not, _&&_, _||_}
 use mathlib.Core.List.{List, [], _∷_, map}
 use mathlib.Core.Option.{Option, none, some}
@@ -10,7 +21,8 @@ use Rattle.bits.specs.Range.{keep}
 use Rattle.rules.specs.Cleanup.{cleanup}
 use Rattle.rules.specs.Coefficient.{coefficient, wordCount, packed, stray, words}
 use Rattle.rules.specs.Form.{rawCost}
-use Rattle.rules.specs.Limits.{formFlags, ruleFlags, tooManyFlags, shortTable, shortCoefficients, strayCoefficient, shortOutput, badSetting, differs, tooCostly}
+use Rattle.rules.specs.Limits.{formFlags, ruleFlags}
+use Rattle.rules.specs.Limits.{tooManyFlags, shortTable, shortCoefficients, strayCoefficient, shortOutput, badSetting, differs, tooCostly}
 use Rattle.rules.specs.Machine.{made}
 use Rattle.rules.specs.Monomial.{form, constant, monomials, ordered}
 use Rattle.rules.specs.Outcome.{Outcome, gives, refuses, refuse, _then_}
@@ -67,6 +79,7 @@ listing n ws room =
     withCoefficients formFlags n ws
     (withRoom room (listed (form n (packed ws)) .masks) (gives (listed (form n (packed ws)))))
 
+-- "raw costing takes n and coefficients"; "Raw cost equals the raw form's `anf_expr_cost`."
 unfoldable pub rawCosting : ℕ → List ℕ → Outcome ℕ
 rawCosting n ws = withCoefficients ruleFlags n ws (gives (rawCost (form n (packed ws))))
 
@@ -97,7 +110,8 @@ compile n table room =
 
 -- ---- reading, evaluation, costing
 
--- the record at a place, or none where no byte is left there
+-- "The reader takes n, bytes and a place and answers one record: its kind with payload and the next place, or a refusal by row 1, 6 or 7; if no byte
+-- is left at that place, it answers the end.": the end is none
 unfoldable pub read : ℕ → List ℕ → ℕ → Outcome (Option Found)
 read n s p =
     refuse (ltb ruleFlags n) tooManyFlags 0
@@ -107,6 +121,7 @@ read n s p =
 unfoldable pub parse : ℕ → List ℕ → Outcome Tree
 parse n s = refuse (ltb ruleFlags n) tooManyFlags 0 (made n s)
 
+-- "Evaluation takes one setting."
 unfoldable pub evaluate : ℕ → List ℕ → ℕ → Outcome ℕ
 evaluate n s at =
     refuse (ltb ruleFlags n) tooManyFlags 0
@@ -118,6 +133,7 @@ pub record Costs : Type 0 where
   pub size : ℕ
   pub depth : ℕ
 
+-- "costing takes n and bytes, and answers cost, size and depth"
 unfoldable pub costing : ℕ → List ℕ → Outcome Costs
 costing n s = parse n s then (λ t. gives (record { cost = cost t; size = size t; depth = depth t }))
 

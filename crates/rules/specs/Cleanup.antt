@@ -20,9 +20,11 @@ use Rattle.rules.specs.Form.{cube, orChain, rawForm, rawCost, literals}
 use Rattle.rules.specs.Monomial.{constant, monomials}
 use Rattle.rules.specs.Tree.{Tree, CO, AN, XO, NO, cost}
 
+-- "the nonempty subsets of U"
 unfoldable pub family : ℕ → List ℕ
 family u = keep (λ m. within m u) (from 1 u)
 
+-- "with constant 1, XO of CO 1 and that"
 unfoldable pub atop : Bool → Tree → Tree
 atop true t = XO (CO true) t
 atop false t = t
@@ -75,6 +77,8 @@ unfoldable pub meets : List ℕ → ℕ → Bool
 meets [] c = false
 meets (a ∷ l) c = any (λ b. eqb (bitAnd a b) c) l || meets l c
 
+-- "The monomials that contain the whole cube, at least 2, are covered and are stripped of it; an emptied one becomes constant 1 of the stripped
+-- form."
 unfoldable pub covered : ℕ → List ℕ → List ℕ
 covered c l = keep (λ m. within c m) (monomials l)
 
@@ -86,10 +90,12 @@ unfoldable pub isCube : List ℕ → ℕ → Bool
 isCube l c =
     (eqb (ones c) 1 && within c (union l) || leb 2 (ones c) && meets (monomials l) c) && leb 2 (length (covered c l))
 
--- "raw cost of the covered monomials, without the constant, less 1 less the cube's cost less the cleaned inner cost; it must be above 0"
+-- "raw cost of the covered monomials, without the constant, less 1 less the cube's cost less the cleaned inner cost"; "it must be above 0",
+-- which `greatest` sees to: a difference below 0 is 0 here, and a saving of 0 replaces nothing
 unfoldable pub cubeSaving : (List ℕ → Tree) → List ℕ → ℕ → ℕ
 cubeSaving g l c = rawCost (covered c l) - 1 - cost (cube c) - cost (g (stripped c l))
 
+-- "equal savings, the smallest cube"
 unfoldable pub bestCube : (List ℕ → Tree) → List ℕ → ℕ
 bestCube g l = greatest (cubeSaving g l) (keep (isCube l) (from 1 (union l)))
 

@@ -2,8 +2,8 @@
 // the document's own examples with them. The only code is what every call shares: the limits, and the refusal that an answer can hold. It rests
 // on `bits`.
 
-// Limits: flags of a form (transform, way back, listing) and of a rule (all other calls), the records of an expression, and the bytes that always suffice
-// for one that is compiled.
+// Limits: flags of a form (transform, way back, listing) and of a rule (all other calls), the records of an expression,
+// and the bytes that always suffice for one that is compiled.
 pub const FORM_FLAGS: usize = 16;
 
 pub const RULE_FLAGS: usize = 6;

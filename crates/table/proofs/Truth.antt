@@ -1,5 +1,6 @@
 -- Tables as truth functions: the table of a function has its values, and its form is the function's. It rests on words read back (bits, Chosen and
 -- Word), on the transform inside one word (anf_transform, InWord) and on coefficients (laws, Mobius).
+--   keep-settings        == tests that agree at the settings keep the same settings
 --   truth-tableOf        == the values of a table, of the settings of its flags
 --   form-ext             == functions with the same values at the settings have the same form
 --   form-tableOf         == so has the table of a function
@@ -38,7 +39,7 @@ use Rattle.table.specs.declared.Table.{Table}
 -- ---- the values at the settings
 
 module _ (n : ℕ) where
-  keep-settings : (p q : ℕ → Bool) → ((s : ℕ) → s < 2 ^ n → p s ≡ q s) → keep p (settings n) ≡ keep q (settings n)
+  pub keep-settings : (p q : ℕ → Bool) → ((s : ℕ) → s < 2 ^ n → p s ≡ q s) → keep p (settings n) ≡ keep q (settings n)
   keep-settings p q h = keep-ext p q (settings n) (λ s m. h s (ltb-true s (2 ^ n) (sym (mem-upto (2 ^ n) s) ∙ m)))
 
   pub truth-tableOf : (f : ℕ → Bool) (s : ℕ) → s < 2 ^ n → truth (tableOf n f) s ≡ f s

@@ -59,7 +59,15 @@ room-number label k at out h r = omega (arith, length-append label (decimal k), 
 pub room-numbers : (label : List ℕ) (k : ℕ) (second : List ℕ) (j at : ℕ) (out : List ℕ) → k < 2 ^ 64 → j < 2 ^ 64
     → at + length label + length second + 40 ≤ length out → Room (label ++ decimal k ++ (second ++ decimal j)) at out
 room-numbers label k second j at out h g r =
-    omega (arith, length-append (label ++ decimal k) (second ++ decimal j), length-append label (decimal k), length-append second (decimal j), length-word k h, length-word j g)
+    omega (
+      arith,
+      length-append (label ++ decimal k) (second ++ decimal j),
+      length-append label (decimal k),
+      length-append second (decimal j),
+      length-word k h,
+      length-word j g,
+    )
 
-pub number-short : (label : List ℕ) (k : ℕ) {a b : ℕ} {out after : List ℕ} → k < 2 ^ 64 → Stored (label ++ decimal k) a b out after → b ≤ a + length label + 20
+pub number-short : (label : List ℕ) (k : ℕ) {a b : ℕ} {out after : List ℕ} → k < 2 ^ 64 → Stored (label ++ decimal k) a b out after
+    → b ≤ a + length label + 20
 number-short label k h p = omega (arith, length-append label (decimal k), length-word k h)

@@ -1,5 +1,5 @@
--- Bytes that pass a test one after another, and the entries that digits stand for. It rests on the definition of `all` and on the library's laws of parts of a
--- list.
+-- Bytes that pass a test one after another, and the entries that digits stand for.
+-- It rests on the definition of `all` and on the library's laws of parts of a list.
 --   all-none, all-more       == the bytes before a place all pass: none, and one more
 --   all-stop                 == one byte that does not pass
 --   all-at                   == each passes
@@ -57,7 +57,8 @@ digit-byte b e = go (eqb b 48) refl e
 pub length-values : (l : List ℕ) → length (values l) ≡ length l
 length-values l = length-map l (λ b. b - 48)
 
-pub entries-more : (table l : List ℕ) (i : ℕ) → i < length l → set (sets table 0 (take i (values l))) i (getD l i 0 - 48) ≡ sets table 0 (take (i + 1) (values l))
+pub entries-more : (table l : List ℕ) (i : ℕ) → i < length l
+    → set (sets table 0 (take i (values l))) i (getD l i 0 - 48) ≡ sets table 0 (take (i + 1) (values l))
 entries-more table l i h =
     ap₂ (λ (j v : ℕ). set (sets table 0 (take i (values l))) j v) (sym (zero-add i)) (sym (List·getD-map (λ b. b - 48) l i 0))
     ∙ stores-more table (values l) 0 i 0 (omega (arith, length-values l))

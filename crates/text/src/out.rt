@@ -46,7 +46,8 @@ pub fn put_numbers(
     at: usize,
 ) -> usize
     requires { ⌜ Room (now label ++ decimal number ++ (now second ++ decimal other)) at (now out) ⌝ }
-    ensures { λ r. ⌜ Stored (now (label .entry) ++ decimal number ++ (now (second .entry) ++ decimal other)) at r (now (out .entry)) (now (out .exit)) ⌝ }
+    ensures { λ r. ⌜ Stored (now (label .entry) ++ decimal number ++ (now (second .entry) ++ decimal other)) at r
+        (now (out .entry)) (now (out .exit)) ⌝ }
 {
     let next = put_number(label, number, out, at);
     put_number(second, other, out, next)

@@ -1,5 +1,5 @@
--- What the demand calls compiling and examining is what the two calls promise: `Learnt` of a function is all that its callers are told by its contract,
--- of its arguments, its result and its arguments at exit. So a weaker contract would not prove these.
+-- What the demand calls compiling and examining is what the two calls promise: `Learnt` of a function is all that its callers are told by its
+-- contract, of its arguments, its result and its arguments at exit. So a weaker contract would not prove these.
 --   compiler-keeps       == the contract of `compiler::build_anf_expr` tells `Compiles`
 --   examiner-keeps       == the contract of `examiner::examine` tells `Examines`
 use borrow.Fn.Kinds.{Dens, endedOf}

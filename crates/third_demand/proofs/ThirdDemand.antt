@@ -1,6 +1,6 @@
 -- The third demand of the mission, in the demand's own words and order, of whatever keeps the contracts of `compiler::build_anf_expr` and
--- `examiner::examine`. It rests on when the examiner accepts and that it accepts what is compiled (laws, acceptance), on the limit of bytes (laws, Fits)
--- and on answers being told by their meanings (Injective of both crates).
+-- `examiner::examine`. It rests on when the examiner accepts and that it accepts what is compiled (laws, acceptance), on the limit of bytes
+-- (laws, Fits) and on answers being told by their meanings (Injective of both crates).
 --   expression n table           == the expression that document 01's cleanup gives for the table
 --   counts n table               == its counts and costs, as the compiler returns them
 --   Compiles n table out after r == the contract of the compiler, for a buffer that held `out` and then holds `after`, and the answer r
@@ -29,12 +29,12 @@ use Rattle.laws.proofs.calls.Checked.{table-complete, room-enough}
 use Rattle.laws.proofs.calls.Outcome.{front-written}
 use Rattle.laws.proofs.cost.Cost.{cost-rawForm}
 use Rattle.laws.proofs.cost.Fits.{length-compiled}
-use Rattle.compiler.specs.Answer.{compilationOf, bytesOf}
+use Rattle.compiler.specs.Answers.{compilationOf, bytesOf}
 use Rattle.compiler.specs.declared.Compilation.{Compilation}
 use Rattle.compiler.specs.declared.Compilation.the-variants.{Written}
 use Rattle.compiler.specs.declared.Expression.{Expression}
 use Rattle.compiler.proofs.Injective.{compilationOf-injective}
-use Rattle.examiner.specs.Answer.{examinationOf}
+use Rattle.examiner.specs.Answers.{examinationOf}
 use Rattle.examiner.specs.declared.Examination.{Examination}
 use Rattle.examiner.specs.declared.Examination.the-variants.{Accepted}
 use Rattle.examiner.proofs.Injective.{examinationOf-injective}

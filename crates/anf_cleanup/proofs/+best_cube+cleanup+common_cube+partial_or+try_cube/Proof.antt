@@ -9,7 +9,8 @@ mod PartialOr
 mod TryCube
 use Rattle.anf_cleanup.proofs.+best_cube+cleanup+common_cube+partial_or+try_cube.{statement}
 use Rattle.anf_cleanup.proofs.+best_cube+cleanup+common_cube+partial_or+try_cube.Tie.{close}
-use Rattle.anf_cleanup.proofs.+best_cube+cleanup+common_cube+partial_or+try_cube.Proof.Claims.{μ-best-cube, μ-cleanup, μ-common-cube, μ-partial-or, μ-try-cube}
+use Rattle.anf_cleanup.proofs.+best_cube+cleanup+common_cube+partial_or+try_cube.Proof.Claims.{μ-best-cube, μ-cleanup}
+use Rattle.anf_cleanup.proofs.+best_cube+cleanup+common_cube+partial_or+try_cube.Proof.Claims.{μ-common-cube, μ-partial-or, μ-try-cube}
 use Rattle.anf_cleanup.proofs.+best_cube+cleanup+common_cube+partial_or+try_cube.Proof.BestCube as best-cube
 use Rattle.anf_cleanup.proofs.+best_cube+cleanup+common_cube+partial_or+try_cube.Proof.Cleanup as cleanup
 use Rattle.anf_cleanup.proofs.+best_cube+cleanup+common_cube+partial_or+try_cube.Proof.CommonCube as common-cube

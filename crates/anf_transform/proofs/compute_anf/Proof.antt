@@ -49,17 +49,20 @@ returns-2 c =
 word-count-requires : tie.Need-word-count-requires
 word-count-requires c κs = search needs
 
--- rows 1 and 2 are passed
-passed : (c : tie.After-word-count) → let s = c .before .before .before .before .before .before in call s ≡ fill (length (s .args .out .now)) (due s)
+-- where the call began, seen from where rows 1 and 2 are passed; and that they are
+abbrev start : tie.After-word-count → tie.Start
+start c = c .before .before .before .before .before .before
+
+passed : (c : tie.After-word-count) → let s = start c in call s ≡ fill (length (s .args .out .now)) (due s)
 unfolding transform
 passed c =
-    let s = c .before .before .before .before .before .before in
+    let s = start c in
     table-complete formFlags (s .args .flags) (s .args .table .now) (fill (length (s .args .out .now)) (due s)) (omega arith) (omega arith)
 
 returns-3 : tie.Need-returns-3
 unfolding fill
 returns-3 c =
-    let s = c .before .before .before .before .before .before .before in
+    let s = start (c .before) in
     let n : length (due s) ≡ c .before .word-count .result = due-length s ∙ sym (c .before .word-count .ensures) in
     filled-refusal (s .args .out .now) (call s) 5 (c .before .word-count .result)
     (passed (c .before) ∙ room-short (length (s .args .out .now)) (due s) (gives (due s)) (omega arith) ∙ ap (refuses 5) n)
@@ -69,12 +72,12 @@ slice-relend-prefix-transform-table c = search needs
 
 slice-aggregate-transform-table : tie.Need-slice-aggregate-transform-table
 slice-aggregate-transform-table c =
-    let s = c .before .before .before .before .before .before .before .before in
+    let s = start (c .before .before) in
     sym (length-take-le (c .before .before .word-count .result) (s .args .out .now) (search needs))
 
 transform-table-requires : tie.Need-transform-table-requires
 transform-table-requires c κs =
-    let s = c .before .before .before .before .before .before .before .before in (
+    let s = start (c .before .before) in (
       search needs,
       omega arith,
       length-take-le (c .before .before .word-count .result) (s .args .out .now) (search needs) ∙ c .before .before .word-count .ensures,
@@ -87,7 +90,7 @@ returns-4 : tie.Need-returns-4
 unfolding fill
 returns-4 c =
     let w = c .before .before .before .before .before in
-    let s = w .before .before .before .before .before .before in
+    let s = start w in
     let k = w .word-count .result in
     let n : length (due s) ≡ k = due-length s ∙ sym (w .word-count .ensures) in
     let after = c .before .before .transform-table .last .1 .1 .0 ++ drop k (s .args .out .now) in

@@ -1,5 +1,5 @@
--- `anf_transform::compute_table` meets its contract: each `return` is a row of the refusal table, or the end with no row left, where the values stand at
--- the front of the buffer.
+-- `anf_transform::compute_table` meets its contract: each `return` is a row of the refusal table, or the end with no row left,
+-- where the values stand at the front of the buffer.
 use mathlib.Core.List.{List, map}
 use mathlib.Core.Path.{_≡_, sym, ap, _∙_}
 use Prim.Native.Nat.{ℕ, _^_}
@@ -35,7 +35,8 @@ returns : tie.Need-returns
 unfolding wayBack
 returns c =
     let s = c .before .before .before in
-    filled-refusal (s .args .out .now) (call s) 1 0 (coefficients-flags formFlags (s .args .flags) (s .args .coefficients .now) (last s) (omega arith))
+    filled-refusal (s .args .out .now) (call s) 1 0
+    (coefficients-flags formFlags (s .args .flags) (s .args .coefficients .now) (last s) (omega arith))
 
 word-count-requires : tie.Need-word-count-requires
 word-count-requires c κs = search needs
@@ -61,18 +62,21 @@ returns-3 c =
 setting-count-requires : tie.Need-setting-count-requires
 setting-count-requires c κs = search needs
 
--- rows 1, 3 and 4 are passed
-passed : (c : tie.Else3) → call (c .before .before .before .before .before .before .before) ≡ last (c .before .before .before .before .before .before .before)
+-- where the call began, seen from where rows 1, 3 and 4 are passed; and that they are
+abbrev start : tie.Else3 → tie.Start
+start c = c .before .before .before .before .before .before .before
+
+passed : (c : tie.Else3) → call (start c) ≡ last (start c)
 unfolding wayBack
 passed c =
-    let s = c .before .before .before .before .before .before .before in
+    let s = start c in
     coefficients-clean formFlags (s .args .flags) (s .args .coefficients .now) (last s) (search needs) (omega arith)
     (sym (c .before .is-stray .ensures) ∙ c .if3 .left)
 
 returns-4 : tie.Need-returns-4
 unfolding fill
 returns-4 c =
-    let s = c .before .before .before .before .before .before .before .before .before in
+    let s = start (c .before .before) in
     let n : length (due s) ≡ c .before .setting-count .result = due-length s ∙ sym (c .before .setting-count .ensures) in
     filled-refusal (s .args .out .now) (call s) 5 (c .before .setting-count .result)
     (passed (c .before .before) ∙ room-short (length (s .args .out .now)) (due s) (gives (due s)) (omega arith) ∙ ap (refuses 5) n)
@@ -87,7 +91,7 @@ returns-5 : tie.Need-returns-5
 unfolding fill
 returns-5 c =
     let w = c .before .before .before .before .before in
-    let s = w .before .before .before .before .before .before .before .before in
+    let s = start (w .before) in
     let n : length (due s) ≡ w .setting-count .result = due-length s ∙ sym (w .setting-count .ensures) in
     filled-result (s .args .out .now) (c .before .before .transform-back .last .1 .1 .0) (due s) (call s) (w .setting-count .result)
     (passed (w .before) ∙ room-enough (length (s .args .out .now)) (due s) (gives (due s)) (omega arith)) n (search needs)

@@ -1,4 +1,5 @@
--- `anf_transform::transform_back` meets its contract: the copied words come to hold the values as bits, and the entries that they give way to cover them.
+-- `anf_transform::transform_back` meets its contract: the copied words come to hold the values as bits,
+-- and the entries that they give way to cover them.
 use mathlib.Core.List.{List, _++_, map}
 use mathlib.Core.Path.{_≡_, sym, ap, _∙_}
 use Prim.Native.Nat.{ℕ, _^_, _≤_, _<_}
@@ -21,12 +22,16 @@ use Rattle.anf_transform.proofs.transform_back.Tie as tie
 word-count-requires : tie.Need-word-count-requires
 word-count-requires c κs = search needs
 
--- the words have room, and so many are lent
-room : (c : tie.After-word-count) → c .word-count .result ≤ length (c .before .before .before .args .out .now)
-room c = omega (arith, wordCount-le (c .before .before .before .args .flags))
+-- where the call began, seen from where its words are counted
+abbrev start : tie.After-word-count → tie.Start
+start c = c .before .before .before
 
-lent : (c : tie.After-word-count) → length (take (c .word-count .result) (c .before .before .before .args .out .now)) ≡ wordCount (c .before .before .before .args .flags)
-lent c = length-take-le (c .word-count .result) (c .before .before .before .args .out .now) (room c) ∙ c .word-count .ensures
+-- the words have room, and so many are lent
+room : (c : tie.After-word-count) → c .word-count .result ≤ length (start c .args .out .now)
+room c = omega (arith, wordCount-le (start c .args .flags))
+
+lent : (c : tie.After-word-count) → length (take (c .word-count .result) (start c .args .out .now)) ≡ wordCount (start c .args .flags)
+lent c = length-take-le (c .word-count .result) (start c .args .out .now) (room c) ∙ c .word-count .ensures
 
 slice-relend-prefix-words : tie.Need-slice-relend-prefix-words
 slice-relend-prefix-words c = room c
@@ -46,29 +51,31 @@ unpack-requires c κs = search needs
 same-length : tie.Need-same-length
 same-length c = search needs
 
--- after the transform the words hold the values as bits
-abbrev start : tie.After-transform-words → tie.Start
-start c = c .before .before .before .before .before .before .before .before .before
+-- after the transform: where the words were counted and where the call began, and that the words hold the values as bits
+abbrev counted : tie.After-transform-words → tie.After-word-count
+counted c = c .before .before .before .before .before .before
 
-holds : (c : tie.After-transform-words) (m : ℕ) → m < 2 ^ start c .args .flags
-    → packed (c .transform-words .last .1 .0) m ≡ coefficient (start c .args .flags) (packed (start c .args .coefficients .now)) m
+abbrev begun : tie.After-transform-words → tie.Start
+begun c = start (counted c)
+
+holds : (c : tie.After-transform-words) (m : ℕ) → m < 2 ^ begun c .args .flags
+    → packed (c .transform-words .last .1 .0) m ≡ coefficient (begun c .args .flags) (packed (begun c .args .coefficients .now)) m
 holds c m h =
-    let n = start c .args .flags in
-    let cs = start c .args .coefficients .now in
+    let n = begun c .args .flags in
+    let cs = begun c .args .coefficients .now in
     let p = c .before .before .before .copy in
-    let e : p .last .1 .0 ≡ take (wordCount n) cs =
-    p .ensures ∙ ap (λ (k : ℕ). take k cs) (lent (c .before .before .before .before .before .before)) in
+    let e : p .last .1 .0 ≡ take (wordCount n) cs = p .ensures ∙ ap (λ (k : ℕ). take k cs) (lent (counted c)) in
     c .transform-words .ensures .1 m h
     ∙ coefficient-ext n (packed (p .last .1 .0)) (packed cs) m (λ s l. ap (λ (ws : List ℕ). packed ws s) e ∙ packed-take n cs s l)
 
 returns : tie.Need-returns
 returns c =
     let t = c .before .before .before .before .before .before in
-    let n = start t .args .flags in
-    let o = start t .args .out .now in
-    let cs = start t .args .coefficients .now in
+    let n = begun t .args .flags in
+    let o = begun t .args .out .now in
+    let cs = begun t .args .coefficients .now in
     let ws = t .transform-words .last .1 .0 in
-    let k = t .before .before .before .before .before .before .word-count in
+    let k = counted t .word-count in
     let size : length ws ≡ wordCount n = t .transform-words .ensures .0 in
     let vs = map (λ s. digit (coefficient n (packed cs) s)) (upto (2 ^ n)) in
     let many : length vs ≡ 2 ^ n = length-map-upto (2 ^ n) (λ s. digit (coefficient n (packed cs) s)) in

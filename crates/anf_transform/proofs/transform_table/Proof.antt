@@ -14,9 +14,12 @@ use Rattle.anf_transform.proofs.Words.{full-words, cut-word}
 use Rattle.anf_transform.proofs.transform_table.Statement.{statement}
 use Rattle.anf_transform.proofs.transform_table.Tie as tie
 
--- after the transform
+-- seen from after the transform: where the table was packed, and where the call began
+abbrev packing : tie.After-slice-known3 → tie.After-pack
+packing c = c .before .before .before .before .before .before
+
 abbrev start : tie.After-slice-known3 → tie.Start
-start c = c .before .before .before .before .before .before .before .before .before .before
+start c = packing c .before .before .before .before
 
 abbrev made : tie.After-slice-known3 → List ℕ
 made c = c .before .before .transform-words .last .1 .0
@@ -26,7 +29,7 @@ holds : (c : tie.After-slice-known3) (m : ℕ) → m < 2 ^ start c .args .flags
 holds c m h =
     let n = start c .args .flags in
     let t = entry (start c .args .table .now) in
-    let p = c .before .before .before .before .before .before .pack in
+    let p = packing c .pack in
     c .before .before .transform-words .ensures .1 m h
     ∙ coefficient-ext n (packed (p .last .1 .1 .0)) t m (λ s l. ap (λ (ws : List ℕ). packed ws s) (p .ensures) ∙ packed-words n t s l)
 

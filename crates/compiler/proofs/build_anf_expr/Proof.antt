@@ -27,8 +27,8 @@ returns-2 c =
 of-entries-requires : tie.Need-of-entries-requires
 of-entries-requires c κs = search needs
 
-compile-requires : tie.Need-compile-requires
-compile-requires c κs = search needs
+compile-table-requires : tie.Need-compile-table-requires
+compile-table-requires c κs = search needs
 
 same-length : tie.Need-same-length
 same-length c = search needs
@@ -38,8 +38,8 @@ returns-3 c =
     let written = c .before .before in
     let made = written .before .before in
     let a = made .before .before .before .before .before .before .args in
-    told-past (a .flags) (a .table .now) (a .out .now) (omega arith) (omega arith) _ (made .of-entries .ensures) _ (written .compile .result)
-    (written .compile .ensures)
+    told-past (a .flags) (a .table .now) (a .out .now) (omega arith) (omega arith) _ (made .of-entries .ensures) _ (written .compile-table .result)
+    (written .compile-table .ensures)
 
 pub build-anf-expr-spec : {M : Type 1} → statement M
 build-anf-expr-spec =
@@ -51,6 +51,6 @@ build-anf-expr-spec =
     refused-requires-2
     returns-2
     of-entries-requires
-    compile-requires
+    compile-table-requires
     same-length
     returns-3)

@@ -1,11 +1,11 @@
--- `compiler::copy` meets its contract. The loop's invariant: the first i bytes stand at the front of the buffer (Copied). The measure is what is left of
--- the count.
+-- `compiler::copy` meets its contract. The loop's invariant: the first i bytes stand at the front of the buffer (bits, Copied).
+-- The measure is what is left of the count.
 use Prim.Native.Nat.{_-_, _≤_}
 use native.Mathlib.Omega.{arith}
 use mathlib.Core.Path.{_≡_, ap, _∙_}
 use lib.ListN.{length, take}
 use lib.Seq.{sets}
-use Rattle.compiler.proofs.Copied.{Copied, copied-none, copied-more, copied-length}
+use Rattle.bits.proofs.Copied.{Copied, copied-none, copied-more, copied-length}
 use Rattle.compiler.proofs.copy.Statement.{statement}
 use Rattle.compiler.proofs.copy.Tie as tie
 

@@ -1,6 +1,6 @@
 -- `console::rule_evaluation_number` meets its contract: each arm names the answer, and evaluation's promise says what it means.
 use mathlib.Core.Path.{ap, sym, _∙_}
-use Rattle.evaluation.specs.Values.{evaluationOf}
+use Rattle.evaluation.specs.Answers.{evaluationOf}
 use Rattle.evaluation.specs.declared.Evaluation.{Evaluation}
 use Rattle.rules.specs.Console.{number}
 use borrow.Author.Needs.{needs}
@@ -20,7 +20,9 @@ returns : tie.Need-returns
 returns c = ap (λ (r : Evaluation). number (evaluationOf r)) (sym (c .enum-told .given .1)) ∙ ap number (c .before .before .evaluate .ensures)
 
 returns-2 : tie.Need-returns-2
-returns-2 c = ap (λ (r : Evaluation). number (evaluationOf r)) (sym (c .before .answer .given .1)) ∙ ap number (c .before .before .before .evaluate .ensures)
+returns-2 c =
+    ap (λ (r : Evaluation). number (evaluationOf r)) (sym (c .before .answer .given .1))
+    ∙ ap number (c .before .before .before .evaluate .ensures)
 
 pub rule-evaluation-number-spec : {M : Type 1} → statement M
 rule-evaluation-number-spec =

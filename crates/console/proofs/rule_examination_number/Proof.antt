@@ -1,6 +1,6 @@
 -- `console::rule_examination_number` meets its contract: each arm names the answer, and examination's promise says what it means.
 use mathlib.Core.Path.{ap, sym, _∙_}
-use Rattle.examiner.specs.Answer.{examinationOf}
+use Rattle.examiner.specs.Answers.{examinationOf}
 use Rattle.examiner.specs.declared.Examination.{Examination}
 use Rattle.rules.specs.Console.{number}
 use borrow.Author.Needs.{needs}
@@ -20,7 +20,9 @@ returns : tie.Need-returns
 returns c = ap (λ (r : Examination). number (examinationOf r)) (sym (c .enum-told .given .1)) ∙ ap number (c .before .before .examine .ensures)
 
 returns-2 : tie.Need-returns-2
-returns-2 c = ap (λ (r : Examination). number (examinationOf r)) (sym (c .before .answer .given .1)) ∙ ap number (c .before .before .before .examine .ensures)
+returns-2 c =
+    ap (λ (r : Examination). number (examinationOf r)) (sym (c .before .answer .given .1))
+    ∙ ap number (c .before .before .before .examine .ensures)
 
 pub rule-examination-number-spec : {M : Type 1} → statement M
 rule-examination-number-spec =

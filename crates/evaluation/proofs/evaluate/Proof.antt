@@ -6,7 +6,7 @@ use borrow.Author.Tests.{lt-ltb, le-ltb, le-leb, lt-leb}
 use borrow.Author.Needs.{needs}
 use Rattle.bits.proofs.Shift.{one-shl}
 use Rattle.rules.specs.Calls.{evaluate}
-use Rattle.evaluation.specs.Values.{evaluated}
+use Rattle.evaluation.specs.inner.OneSetting.{evaluated}
 use Rattle.evaluation.proofs.evaluate.Statement.{statement}
 use Rattle.evaluation.proofs.evaluate.Tie as tie
 

@@ -1,7 +1,7 @@
 -- `evaluation::flag_words` meets its contract: word by word.
 use borrow.Author.Needs.{needs}
 use Rattle.bits.specs.Range.{from}
-use Rattle.evaluation.specs.Values.{flagsOf}
+use Rattle.evaluation.specs.inner.OneSetting.{flagsOf}
 use Rattle.evaluation.proofs.flag_words.Statement.{statement}
 use Rattle.evaluation.proofs.flag_words.Tie as tie
 

@@ -10,7 +10,7 @@ use Rattle.expr.specs.Answers.{kindOf}
 use Rattle.expr.proofs.Reader.{Read, read-index}
 use Rattle.expr.proofs.Turn.{turn-found, turn-end, turn-refused}
 use Rattle.expr.proofs.Walk.{walk-many}
-use Rattle.evaluation.specs.Values.{evaluationOf}
+use Rattle.evaluation.specs.Answers.{evaluationOf}
 use Rattle.evaluation.proofs.Packed.{Packing, packing-start, packing-step, packing-few, packing-end}
 use Rattle.evaluation.proofs.Values.{evaluated-refused}
 use Rattle.evaluation.proofs.walk.Statement.{statement}

@@ -4,10 +4,11 @@ use Prim.Native.Nat.{_%_}
 use denote.Ref.{now}
 use borrow.Author.Needs.{needs}
 use Rattle.rules.specs.Outcome.{Outcome, gives, _then_}
-use Rattle.lanes.specs.Lanes.{seen, walkedOf}
+use Rattle.lanes.specs.Lanes.{seen}
+use Rattle.lanes.specs.Answers.{walkedOf}
 use Rattle.lanes.specs.declared.Seen.{Seen}
 use Rattle.lanes.specs.declared.Walked.{Walked}
-use Rattle.evaluation.specs.Values.{evaluated}
+use Rattle.evaluation.specs.inner.OneSetting.{evaluated}
 use Rattle.evaluation.proofs.Values.{evaluated-lane}
 use Rattle.evaluation.proofs.walk_lane.Statement.{statement}
 use Rattle.evaluation.proofs.walk_lane.Tie as tie

@@ -57,11 +57,15 @@ returns-3 c =
     let i = v .before in
     let u = i .before in
     shows-told
-    (shows-eq (sym (page-lines (input u) (u .before .if1 .left) ∙ lines-more (u .until .ensures) (i .if2 .left) (v .until2 .ensures) (c .before .if3 .taken)))
+    (shows-eq
+    (sym (page-lines (input u) (u .before .if1 .left)
+    ∙ lines-more (u .until .ensures) (i .if2 .left) (v .until2 .ensures) (c .before .if3 .taken)))
     (c .not-lines2 .ensures))
 
 slice-aggregate-lines-page : tie.Need-slice-aggregate-lines-page
-slice-aggregate-lines-page c = let u = c .before .before .before .before in sym (length-take-le (u .until .result) (input u) (u .until .ensures .within))
+slice-aggregate-lines-page c =
+    let u = c .before .before .before .before in
+    sym (length-take-le (u .until .result) (input u) (u .until .ensures .within))
 
 sub-lines-page : tie.Need-sub-lines-page
 sub-lines-page c = search needs

@@ -1,5 +1,5 @@
--- `examination_text::rule_page` meets its contract: the table's entries are the digits' values and the bytes those of the records, so the verdict on them is the
--- page.
+-- `examination_text::rule_page` meets its contract: the table's entries are the digits' values and the bytes those of the records,
+-- so the verdict on them is the page.
 use mathlib.Core.Bool.{true}
 use mathlib.Core.List.{List, _++_}
 use mathlib.Core.Path.{_≡_, sym, ap₂, _∙_}
@@ -55,8 +55,11 @@ returns : tie.Need-returns
 unfolding ascii
 returns c =
     let i = c .before .before .before in
-    let s = i .before .before .before in
-    shows-eq (sym (rule-none (s .args .flags) (values (s .args .digits .now)) (recordTexts (s .args .line .now)) (sym (i .is-rule .ensures) ∙ not-true _ (c .before .before .if1 .taken)))) (c .page-of .ensures)
+    let a = i .before .before .before .args in
+    shows-eq
+    (sym (rule-none (a .flags) (values (a .digits .now)) (recordTexts (a .line .now))
+    (sym (i .is-rule .ensures) ∙ not-true _ (c .before .before .if1 .taken))))
+    (c .page-of .ensures)
 
 slice-aggregate-entries : tie.Need-slice-aggregate-entries
 slice-aggregate-entries c = search needs
@@ -71,7 +74,7 @@ put-rule-requires : tie.Need-put-rule-requires
 put-rule-requires c κs = let i = c .before .before .before .before in (good i, i .before .before .before .before .pre .3)
 
 array-share-prefix-table : tie.Need-array-share-prefix-table
-array-share-prefix-table c = let t = c .before .before .before .before in omega (arith, few (t .before .before .before .before .before .before), t .entries .kept .1 .0)
+array-share-prefix-table c = let t = c .before .before .before .before in omega (arith, few (start t), t .entries .kept .1 .0)
 
 slice-aggregate-verdict-page : tie.Need-slice-aggregate-verdict-page
 slice-aggregate-verdict-page c = sym (length-front (c .before .before .before .before .before))
@@ -87,7 +90,7 @@ slice-aggregate-verdict-page-2 c =
 verdict-page-requires : tie.Need-verdict-page-requires
 verdict-page-requires c κs =
     let t = c .before .before .before .before .before .before in
-    let s = t .before .before .before .before .before .before in
+    let s = start t in
     (s .pre .0, omega (arith, length-front t, s .pre .1))
 
 returns-2 : tie.Need-returns-2
@@ -98,7 +101,8 @@ returns-2 c =
     let s = i .before .before .before .before in
     let ts = recordTexts (s .args .line .now) in
     shows-eq
-    (ap₂ (λ (table e : List ℕ). words (s .args .flags) table ts (examine (s .args .flags) table e) ++ ascii "\n") (front t) (stored-front (b .put-rule .ensures))
+    (ap₂ (λ (table e : List ℕ). words (s .args .flags) table ts (examine (s .args .flags) table e) ++ ascii "\n")
+    (front t) (stored-front (b .put-rule .ensures))
     ∙ sym (rule-verdict (s .args .flags) (values (s .args .digits .now)) ts (good i))) (c .verdict-page .ensures)
 
 pub rule-page-spec : {M : Type 1} → statement M

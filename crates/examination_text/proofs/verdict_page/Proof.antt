@@ -22,13 +22,18 @@ module _ (p : tie.After-put-verdict) where
   said = take (p .put-verdict .result) (p .put-verdict .last .1 .1 .1 .1 .0)
 
   length-said : length said ≡ p .put-verdict .result
-  length-said = length-take-le _ (p .put-verdict .last .1 .1 .1 .1 .0) (omega (arith, p .put-verdict .ensures .within, stored-length (p .put-verdict .ensures)))
+  length-said =
+      length-take-le _ (p .put-verdict .last .1 .1 .1 .1 .0)
+      (omega (arith, p .put-verdict .ensures .within, stored-length (p .put-verdict .ensures)))
 
-  spoken : (let a = p .before .before .before .before .before .before .args in said ≡ words (a .flags) (a .table .now) (recordTexts (a .line .now)) (examine (a .flags) (a .table .now) (a .expression .now)))
+  spoken :
+      (let a = p .before .before .before .before .before .before .args in
+      said ≡ words (a .flags) (a .table .now) (recordTexts (a .line .now)) (examine (a .flags) (a .table .now) (a .expression .now)))
   spoken =
       let e = p .before .before in
       let a = e .before .before .before .before .args in
-      stored-front (p .put-verdict .ensures) ∙ ap (λ (o : Outcome ℕ). words (a .flags) (a .table .now) (recordTexts (a .line .now)) o) (e .examine .ensures)
+      stored-front (p .put-verdict .ensures)
+      ∙ ap (λ (o : Outcome ℕ). words (a .flags) (a .table .now) (recordTexts (a .line .now)) o) (e .examine .ensures)
 
 examine-requires : tie.Need-examine-requires
 examine-requires c κs = search needs

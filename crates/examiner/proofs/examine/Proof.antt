@@ -4,7 +4,7 @@ use native.Mathlib.Omega.{arith}
 use denote.Ref.{now}
 use Rattle.rules.specs.Limits.{ruleFlags}
 use Rattle.laws.proofs.calls.Checked.{table-flags, table-short}
-use Rattle.examiner.specs.Answer.{examinationOf}
+use Rattle.examiner.specs.Answers.{examinationOf}
 use Rattle.examiner.proofs.Examined.{examine-truth, examine-table}
 use borrow.Author.Needs.{needs}
 use Rattle.examiner.proofs.examine.Statement.{statement}

@@ -3,7 +3,7 @@
 use mathlib.Core.Path.{_≡_, sym, ap, _∙_}
 use denote.Ref.{now}
 use Rattle.rules.specs.Outcome.{Outcome, _then_}
-use Rattle.lanes.specs.Lanes.{walkedOf}
+use Rattle.lanes.specs.Answers.{walkedOf}
 use Rattle.lanes.specs.declared.Seen.{Seen}
 use Rattle.lanes.specs.declared.Walked.{Walked}
 use Rattle.table.specs.Truth.{truth}

@@ -8,7 +8,7 @@ use Rattle.rules.specs.Monomial.{form}
 use Rattle.table.specs.Truth.{truth, differenceOf}
 use Rattle.table.specs.declared.Difference.{Difference}
 use Rattle.table.specs.declared.Difference.the-variants.{None}
-use Rattle.examiner.specs.Answer.{examinationOf}
+use Rattle.examiner.specs.Answers.{examinationOf}
 use Rattle.examiner.specs.Inner.{verdict, judgment}
 use borrow.Author.Needs.{needs}
 use Rattle.examiner.proofs.judge.Statement.{statement}

@@ -1,7 +1,7 @@
 -- `examiner::judge_cost` meets its contract: row 13, and past it (Examined).
 use mathlib.Core.Path.{sym, ap, _∙_}
 use native.Mathlib.Omega.{arith}
-use Rattle.examiner.specs.Answer.{examinationOf}
+use Rattle.examiner.specs.Answers.{examinationOf}
 use Rattle.examiner.proofs.Examined.{verdict-costly, verdict-accepts}
 use borrow.Author.Needs.{needs}
 use Rattle.examiner.proofs.judge_cost.Statement.{statement}

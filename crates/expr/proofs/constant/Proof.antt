@@ -6,7 +6,7 @@ use denote.Ref.{now}
 use borrow.Author.Needs.{needs}
 use borrow.Author.Tests.{lt-ltb, le-ltb, le-leb, lt-leb}
 use Rattle.rules.specs.Record.{loaded}
-use Rattle.expr.specs.Answers.{constantAt}
+use Rattle.expr.specs.Inner.{constantAt}
 use Rattle.expr.proofs.constant.Statement.{statement}
 use Rattle.expr.proofs.constant.Tie as tie
 

@@ -7,7 +7,8 @@ use denote.Ref.{now}
 use borrow.Author.Needs.{needs}
 use Rattle.rules.specs.Outcome.{gives, _then_}
 use Rattle.rules.specs.Record.{plain}
-use Rattle.expr.specs.Answers.{readingOf, stepAt, constantAt, flagAt}
+use Rattle.expr.specs.Answers.{readingOf}
+use Rattle.expr.specs.Inner.{stepAt, constantAt, flagAt}
 use Rattle.expr.proofs.Marks.{byMark, mark-unknown, step-mark, step-short, step-past}
 use Rattle.expr.proofs.step.Statement.{statement}
 use Rattle.expr.proofs.step.Tie as tie

@@ -7,7 +7,7 @@ use denote.Ref.{now}
 use borrow.Author.Needs.{needs}
 use borrow.Author.Tests.{lt-ltb, le-ltb}
 use Rattle.rules.specs.Record.{loaded}
-use Rattle.expr.specs.Answers.{flagAt}
+use Rattle.expr.specs.Inner.{flagAt}
 use Rattle.expr.proofs.variable.Statement.{statement}
 use Rattle.expr.proofs.variable.Tie as tie
 

@@ -3,7 +3,7 @@ use mathlib.Core.Path.{_≡_, sym, ap, _∙_}
 use Prim.Native.Nat.{ℕ, _+_}
 use native.Mathlib.Omega.{arith}
 use borrow.Author.Needs.{needs}
-use Rattle.expr_cost.specs.Answers.{deepest}
+use Rattle.expr_cost.specs.Inner.{deepest}
 use Rattle.expr_cost.proofs.Depth.{deepest-two}
 use Rattle.expr_cost.proofs.deeper.Statement.{statement}
 use Rattle.expr_cost.proofs.deeper.Tie as tie

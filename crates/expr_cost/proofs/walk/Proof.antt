@@ -14,7 +14,8 @@ use Rattle.expr.proofs.Reader.{Read}
 use Rattle.expr.proofs.Walk.{walk-few, walk-many}
 use Rattle.expr.proofs.Turn.{turn-found, turn-end, turn-refused}
 use Rattle.expr.proofs.Costed.{Costed, costed-start, costed-step, costed-less, costed-fits}
-use Rattle.expr_cost.specs.Answers.{costingOf, deepest}
+use Rattle.expr_cost.specs.Answers.{costingOf}
+use Rattle.expr_cost.specs.Inner.{deepest}
 use Rattle.expr_cost.proofs.Depth.{depth-folds, deepest-limit}
 use Rattle.expr_cost.proofs.TreeCosts.{costing-refused, costing-end}
 use Rattle.expr_cost.proofs.walk.Statement.{statement}

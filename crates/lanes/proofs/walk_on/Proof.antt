@@ -13,7 +13,8 @@ use Rattle.expr.proofs.Reader.{Read, read-index}
 use Rattle.expr.proofs.Walk.{walk-few, walk-many}
 use Rattle.expr.proofs.Turn.{turn-found, turn-end, turn-refused}
 use Rattle.expr.proofs.Costed.{Costed, costed-start, costed-less, costed-fits}
-use Rattle.lanes.specs.Lanes.{lanes, walkedOf}
+use Rattle.lanes.specs.Lanes.{lanes}
+use Rattle.lanes.specs.Answers.{walkedOf}
 use Rattle.lanes.proofs.InLanes.{lanes-step, seen-refused, seen-end}
 use Rattle.lanes.proofs.walk_on.Statement.{statement}
 use Rattle.lanes.proofs.walk_on.Tie as tie
@@ -34,7 +35,10 @@ loop-holds c =
 sub-finished : tie.Need-sub-finished Inv-loop μ-loop
 sub-finished c = costed-less (c .before .before .before .before .before .loop .inv)
 
--- where a turn with a record began, and where the call did
+-- in a turn with a record: where the record was found, where the turn began, and where the call did
+abbrev answered : tie.After-is-or Inv-loop μ-loop → tie.After-answer Inv-loop μ-loop
+answered c = c .before .before .before .before .before
+
 abbrev turn : tie.After-answer Inv-loop μ-loop → tie.At-loop Inv-loop μ-loop
 turn c = c .before .before .before .before
 
@@ -68,20 +72,21 @@ returns-3 c =
     ∙ sym (seen-refused _ _ _ (walk-few (turn a .loop .inv .walk) (found a) (omega arith) (omega arith)))
 
 add-saved : tie.Need-add-saved Inv-loop μ-loop
-add-saved c = search (costed-fits (turn (c .before .before .before .before .before .before) .loop .inv) (omega arith))
+add-saved c = search (costed-fits (turn (answered (c .before)) .loop .inv) (omega arith))
 
 value-requires : tie.Need-value-requires Inv-loop μ-loop
 value-requires c κs =
-    let a = c .before .before .before .before .before .before .before .before in
+    let a = answered (c .before .before .before) in
     let s = start (turn a) in
     read-index (found a) (length (now (s .args .words))) (s .pre .1)
 
 loop-again : tie.Need-loop-again Inv-loop μ-loop
 loop-again c =
-    let a = c .before .before .before .before .before .before .before .before .before in
+    let o = c .before .before .before .before in
+    let a = answered o in
     let known = turn a .before .before .before .shared-slice-known2 in
     lanes-step _ _ (turn a .loop .inv) (λ i. known .given i .fits) (found a) (omega arith) _ (omega arith) (omega arith)
-    (c .value .result) (c .value .ensures) _ (c .before .before .before .before .is-or .ensures)
+    (c .value .result) (c .value .ensures) _ (o .is-or .ensures)
 
 returns-5 : tie.Need-returns-5 Inv-loop μ-loop
 returns-5 c =

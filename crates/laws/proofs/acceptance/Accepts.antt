@@ -1,5 +1,6 @@
--- When the examiner accepts: exactly where the table passes its rows and the bytes meet the three conditions of the mission. And what it refuses by 12
--- and 13 for. It rests on bytes and trees as two readings of one expression (reading, WellFormed) and on the laws of a range's first number (bits, First).
+-- When the examiner accepts: exactly where the table passes its rows and the bytes meet the three conditions of the mission. And what it refuses by
+-- 12 and 13 for.
+-- It rests on bytes and trees as two readings of one expression (reading, WellFormed) and on the laws of a range's first number (bits, First).
 --   Meets n table s c                                  == the bytes s meet the three conditions for the table, and their cost is c
 --   examine-meets, meets-examine                       == the examiner gives c exactly there
 --   differences-none, none-differences                 == no setting differs exactly where all values agree
@@ -29,8 +30,8 @@ use Rattle.laws.proofs.calls.Outcome.{gives-same, refuse-gives, then-gi
 use Rattle.laws.proofs.cost.Cost.{cost-rawForm}
 use Rattle.laws.proofs.reading.WellFormed.{Written, made-is, is-made}
 
--- "the string is well formed with at most 385 records, its value at every setting is the table's bit, and its cost is no more than that of the table's
--- raw form": well formed is what a tree writes that has so many records and only the table's flags
+-- "the string is well formed with at most 385 records, its value at every setting is the table's bit, and its cost is no more than that of the
+-- table's raw form": well formed is what a tree writes that has so many records and only the table's flags
 pub record Meets (n : ℕ) (table s : List ℕ) (c : ℕ) : Type 0 where
   pub tree : Tree
   pub formed : Written n s tree

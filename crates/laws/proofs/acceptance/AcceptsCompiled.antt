@@ -37,9 +37,11 @@ written-accepted n table t f h v c z b = meets-examine n table (write t) (cost t
 pub compiled-accepted : (n : ℕ) (table : List ℕ) → n ≤ ruleFlags → complete n table ≡ true
     → examine n table (write (compiled n table)) ≡ gives (cost (compiled n table))
 compiled-accepted n table f h =
-    written-accepted n table (compiled n table) f h (compiled-table n table) (cost-compiled n table) (records-compiled n table f) (flags-compiled n table)
+    written-accepted n table (compiled n table) f h (compiled-table n table) (cost-compiled n table)
+    (records-compiled n table f) (flags-compiled n table)
 
-pub compile-accepted : (n : ℕ) (table : List ℕ) (room : ℕ) (c : Compilation) → compile n table room ≡ gives c → examine n table (c .bytes) ≡ gives (c .cost)
+pub compile-accepted : (n : ℕ) (table : List ℕ) (room : ℕ) (c : Compilation) → compile n table room ≡ gives c
+    → examine n table (c .bytes) ≡ gives (c .cost)
 unfolding compile withTable withRoom compilation
 compile-accepted n table room c e =
     let p = refuse-gives (ltb ruleFlags n) _ _ _ c e in

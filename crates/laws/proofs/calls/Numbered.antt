@@ -1,4 +1,5 @@
--- Every refusal has a number above 0, so a number 0 means a result: the console's two calls together tell the outcome. It rests on the rows of the calls.
+-- Every refusal has a number above 0, so a number 0 means a result: the console's two calls together tell the outcome.
+-- It rests on the rows of the calls.
 --   Numbered o               == a refusal of o has a number above 0
 --   numbered-made            == so for the reading of an expression
 --   numbered-evaluate        == for evaluation

@@ -1,5 +1,5 @@
--- What a given result tells of the rows and steps before it, and what a buffer holds after it. It rests on the two constructors of an outcome and on the
--- laws of stores and of lists with an entry for each number (bits, Stores and Tabulated).
+-- What a given result tells of the rows and steps before it, and what a buffer holds after it. It rests on the two constructors of an outcome and on
+-- the laws of stores and of lists with an entry for each number (bits, Stores and Tabulated).
 --   gives-same       == results of one outcome are equal
 --   refuse-gives     == a row that was passed does not hold, and the rest gave the result
 --   then-gives       == each of two steps gave a result

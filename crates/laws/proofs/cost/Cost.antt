@@ -143,7 +143,8 @@ module _ (f : Tree → ℕ) (c : Counts f) where
 
   pub count-folded : (t : Tree) (ts : List Tree) → f (folded (t ∷ ts)) ≡ total f (t ∷ ts) + length ts
   count-folded t ts =
-      omega (arith, total-suc f (t ∷ ts), folded-ind (λ us x. suc (f x) ≡ total (λ u. suc (f u)) us) (count-one f) (count-join f XO (c .exclusive)) t ts)
+      let joined = folded-ind (λ us x. suc (f x) ≡ total (λ u. suc (f u)) us) (count-one f) (count-join f XO (c .exclusive)) t ts in
+      omega (arith, total-suc f (t ∷ ts))
 
   count-terms : (l : List ℕ) → f (folded (map cube l)) ≡ rawCost l
   unfolding rawCost

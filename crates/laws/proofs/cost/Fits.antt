@@ -1,5 +1,5 @@
--- What the compiler writes for a table of up to six flags keeps document 01's limits: 385 records and 963 bytes. It rests on the size of the cleaned form
--- (Size), its flags (Mentions), the bytes of a tree (Bytes) and on forms ascending (Compiled).
+-- What the compiler writes for a table of up to six flags keeps document 01's limits: 385 records and 963 bytes. It rests on the size of the cleaned
+-- form (Size), its flags (Mentions), the bytes of a tree (Bytes) and on forms ascending (Compiled).
 --   below-form                           == the masks of a form of n flags are below 2^n
 --   size-compiled, cost-compiled         == the size and the cost are at most the raw cost
 --   flags-compiled                       == only the table's flags are mentioned

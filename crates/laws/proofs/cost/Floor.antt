@@ -1,6 +1,6 @@
--- A floor for the cost of a tree that names k flags: 1 up to one flag, else k + 1, which is what their OR chain costs. No tree costs less, so neither does
--- the cleaned form of a form in which k flags occur. It rests on the flags that a tree names (Mentioned), on the costs of OR chains (Cost) and on the
--- sizes of masks (bits, Mask).
+-- A floor for the cost of a tree that names k flags: 1 up to one flag, else k + 1, which is what their OR chain costs. No tree costs less, so neither
+-- does the cleaned form of a form in which k flags occur. It rests on the flags that a tree names (Mentioned),
+-- on the costs of OR chains (Cost) and on the sizes of masks (bits, Mask).
 --   floor k, floor-orChain           == the floor of k flags; it is the cost of their OR chain
 --   floor-le, floor-ge, floor-double == it is k or one more, and for a flag or more below twice k
 --   cost-floor                       == a tree costs at least the floor of the flags that it names

@@ -1,6 +1,6 @@
--- The flags that a tree names, as a mask: the cleaned form of l names exactly the flags that occur in the masks of l. Rule by rule, for any choice that a
--- rule allows, because what a rule takes apart has the whole's flags together. It rests on the cases of a turn (Turn), the induction over parts (Parts),
--- the parts of a form (Covered, Literals), the cleanup's equation (Recursion) and the laws of masks and of unions (bits).
+-- The flags that a tree names, as a mask: the cleaned form of l names exactly the flags that occur in the masks of l. Rule by rule, for any choice
+-- that a rule allows, because what a rule takes apart has the whole's flags together. It rests on the cases of a turn (Turn), the induction over
+-- parts (Parts), the parts of a form (Covered, Literals), the cleanup's equation (Recursion) and the laws of masks and of unions (bits).
 --   union-monomials, union-family                    == the union of a form is that of its monomials; of a family it is the mask itself
 --   union-covered, union-without                     == the union of a form along a cube, and along a family
 --   mentioned-cube, mentioned-orChain                == a product and an OR chain name the flags of their mask
@@ -172,11 +172,13 @@ module _ (g : List ℕ → Tree) (l : List ℕ) (a : Ascending l)
       ∙ ap (λ (x : ℕ). bitOr x (union rest)) (ap₂ bitOr (mentioned-cube c) (h (stripped c l) (literals-stripped c l p q) (ascending-stripped c l a)))
       ∙ sym (union-covered c l p q)
 
-  names-absorbed : (m o : ℕ) → monomials l ≡ m ∷ o ∷ [] → within m o ≡ true → mentioned (atop (constant l) (AN (cube m) (NO (cube (o - m))))) ≡ union l
+  names-absorbed : (m o : ℕ) → monomials l ≡ m ∷ o ∷ [] → within m o ≡ true
+      → mentioned (atop (constant l) (AN (cube m) (NO (cube (o - m))))) ≡ union l
   unfolding mentioned sum
   names-absorbed m o e w =
       names-atop (AN (cube m) (NO (cube (o - m))))
-      (ap₂ bitOr (mentioned-cube m) (mentioned-cube (o - m)) ∙ or-sub m o w ∙ sym (or-within m o w) ∙ ap (bitOr m) (sym (or-zero-r o)) ∙ ap union (sym e))
+      (ap₂ bitOr (mentioned-cube m) (mentioned-cube (o - m)) ∙ or-sub m o w ∙ sym (or-within m o w)
+      ∙ ap (bitOr m) (sym (or-zero-r o)) ∙ ap union (sym e))
 
   pub mentioned-turn : mentioned (turn g l) ≡ union l
   mentioned-turn = turn-ind g l (λ t. mentioned t ≡ union l) (record {

@@ -1,5 +1,5 @@
--- A tree whose mask of named flags is below 2^n names only flags below n; so the cleaned form of masks below 2^n does. It rests on the flags that a cleaned
--- form names (Mentioned) and on the laws of bits and unions (bits).
+-- A tree whose mask of named flags is below 2^n names only flags below n; so the cleaned form of masks below 2^n does. It rests on the flags that a
+-- cleaned form names (Mentioned) and on the laws of bits and unions (bits).
 --   flags-mentioned  == every flag that a tree names is below n, if every bit of its mask of flags is
 --   flags-cleanup    == so for the cleaned form
 use mathlib.Core.Bool.{Bool, true, _||_, or-true}

@@ -1,6 +1,6 @@
--- The cleaned form is no larger than the raw form. Rule by rule, for any choice that a rule allows: what a tree counts, and 1 more for joining it, is at
--- most what its masks count for together, and that bound adds up over the parts. It rests on the counts of parts (Cost), the cases of a turn (Turn), the
--- parts of a form (Covered, Literals) and the laws of totals (bits, Sum and Total).
+-- The cleaned form is no larger than the raw form. Rule by rule, for any choice that a rule allows: what a tree counts, and 1 more for joining it, is
+-- at most what its masks count for together, and that bound adds up over the parts. It rests on the counts of parts (Cost), the cases of a turn
+-- (Turn), the parts of a form (Covered, Literals) and the laws of totals (bits, Sum and Total).
 --   bulk-constant, bulk-covered, bulk-family  == what a form counts for, by parts: its constant, along a cube, and a family alone
 --   size-turn                                 == one turn is no larger than the raw form where what it asks for is not
 --   size-cleanup, cost-cleanup                == nor is the cleaned form, by size and by cost
@@ -29,7 +29,8 @@ use Rattle.rules.specs.Form.{cube, orChain, rawCost, termCost, literals}
 use Rattle.rules.specs.Limits.{ruleFlags, recordLimit}
 use Rattle.rules.specs.Monomial.{constant, monomials}
 use Rattle.rules.specs.Tree.{Tree, CO, AN, XO, NO, cost, size}
-use Rattle.laws.proofs.cost.Cost.{cost-size, termCost-suc, termCost-pos, size-cube, size-orChain, size-rawForm, weight, bulk, rawCost-bulk, rawCost-pos, bulk-literals}
+use Rattle.laws.proofs.cost.Cost.{cost-size, termCost-suc, termCost-pos, size-cube, size-orChain, size-rawForm}
+use Rattle.laws.proofs.cost.Cost.{weight, bulk, rawCost-bulk, rawCost-pos, bulk-literals}
 use Rattle.laws.proofs.form.Covered.{on, form-split, pair-order, covered-keep, ascending-covered, ascending-stripped, keep-family}
 use Rattle.laws.proofs.form.Family.{family-own, family-other}
 use Rattle.laws.proofs.form.Literals.{literals-covered}
@@ -175,7 +176,8 @@ bulk-all = refl
 bulk-limit : (n : ℕ) (l : List ℕ) → n ≤ ruleFlags → Ascending l → Below (2 ^ n) l → bulk l ≤ suc recordLimit
 bulk-limit n l h s b =
     let k = upto (2 ^ ruleFlags) in
-    let e : keep (λ x. mem x l) k ≡ l = keep-upto-of (2 ^ ruleFlags) l s (mem-below (2 ^ ruleFlags) l (λ x m. le-trans (below-mem (2 ^ n) l x b m) (pow-mono h))) in
+    let below : Below (2 ^ ruleFlags) l = mem-below (2 ^ ruleFlags) l (λ x m. le-trans (below-mem (2 ^ n) l x b m) (pow-mono h)) in
+    let e : keep (λ x. mem x l) k ≡ l = keep-upto-of (2 ^ ruleFlags) l s below in
     omega (arith, ap bulk e, total-keep-le weight (λ x. mem x l) k, bulk-all)
 
 pub rawCost-limit : (n : ℕ) (l : List ℕ) → n ≤ ruleFlags → Ascending l → Below (2 ^ n) l → rawCost l ≤ recordLimit

@@ -76,7 +76,8 @@ module _ (c : ℕ) (p : 0 < c) (l : List ℕ) where
   unfolding covered
   covered-keep =
       keep-keep (λ m. within c m) (λ m. ltb 0 m) l
-      ∙ keep-ext (λ m. ltb 0 m && within c m) (λ m. within c m) l (λ m e. and-implied (ltb 0 m) (within c m) (λ h. lt-ltb 0 m (omega (arith, within-le c m h))))
+      ∙ keep-ext (λ m. ltb 0 m && within c m) (λ m. within c m) l
+      (λ m e. and-implied (ltb 0 m) (within c m) (λ h. lt-ltb 0 m (omega (arith, within-le c m h))))
 
   pub parity-uncovered : (f : ℕ → Bool) → parity f l ≡ parity f (covered c l) ⊕ parity f (keep (λ m. not (within c m)) l)
   parity-uncovered f =
@@ -111,7 +112,8 @@ module _ (c : ℕ) (l : List ℕ) where
     pub ascending-stripped : Ascending (stripped c l)
     unfolding stripped
     ascending-stripped =
-        ascending-map (λ m. m - c) (covered c l) (λ x y m n h. omega (arith, within-le c x (covered-within x m), within-le c y (covered-within y n))) ascending-covered
+        ascending-map (λ m. m - c) (covered c l)
+        (λ x y m n h. omega (arith, within-le c x (covered-within x m), within-le c y (covered-within y n))) ascending-covered
 
 -- ---- a family
 
@@ -124,4 +126,5 @@ module _ (m : ℕ) (l : List ℕ) (a : Ascending l) (h : all (λ x. mem x l) (fa
   pub parity-without : (s : ℕ) → parity (λ x. within x s) l ≡ ltb 0 (bitAnd m s) ⊕ parity (λ x. within x s) (keep (λ x. not (mem x (family m))) l)
   parity-without s =
       sum-split xor-laws (λ x. within x s) (λ x. mem x (family m)) l
-      ∙ ap (λ (b : Bool). b ⊕ parity (λ x. within x s) (keep (λ x. not (mem x (family m))) l)) (ap (parity (λ x. within x s)) keep-family ∙ parity-family m s)
+      ∙ ap (λ (b : Bool). b ⊕ parity (λ x. within x s) (keep (λ x. not (mem x (family m))) l))
+      (ap (parity (λ x. within x s)) keep-family ∙ parity-family m s)

@@ -56,7 +56,9 @@ ascending-family u = ascending-keep (λ m. within m u) (from 1 u) (ascending-fro
 first : (f : ℕ → Bool) (k : ℕ) → parity (λ s. f s && eqb s 0) (upto (suc k)) ≡ f 0
 unfolding from sum
 first f k =
-    ap₂ _⊕_ (and-true (f 0)) (sum-ext-mem _⊕_ false (λ s. f s && eqb s 0) (λ s. false) (from 1 k) rest ∙ sum-unit xor-laws (from 1 k)) ∙ xor-false (f 0)
+    ap₂ _⊕_ (and-true (f 0))
+    (sum-ext-mem _⊕_ false (λ s. f s && eqb s 0) (λ s. false) (from 1 k) rest ∙ sum-unit xor-laws (from 1 k))
+    ∙ xor-false (f 0)
   where
     rest : (s : ℕ) → mem s (from 1 k) ≡ true → (f s && eqb s 0) ≡ false
     rest s m =
@@ -96,6 +98,7 @@ parity-family u s =
     ap (λ (l : List ℕ). parity (λ m. within m s) l) (family-form u)
     ∙ parity-keep (λ m. within m s) (λ m. ltb 0 m && within m u) (upto (2 ^ u))
     ∙ sum-ext _⊕_ false (λ m. (ltb 0 m && within m u) && within m s) (λ m. within m (bitAnd u s) && ltb 0 m) (upto (2 ^ u))
-    (λ m. and-assoc (ltb 0 m) (within m u) (within m s) ∙ ap (λ (b : Bool). ltb 0 m && b) (sym (within-and m u s)) ∙ and-comm (ltb 0 m) (within m (bitAnd u s)))
+    (λ m. and-assoc (ltb 0 m) (within m u) (within m s) ∙ ap (λ (b : Bool). ltb 0 m && b) (sym (within-and m u s))
+    ∙ and-comm (ltb 0 m) (within m (bitAnd u s)))
     ∙ sym (coefficient-parity u (λ m. ltb 0 m) (bitAnd u s))
     ∙ coefficient-any u (bitAnd u s) (lt-of-le-of-lt (and-le-l u s) (lt-pow u))

@@ -34,7 +34,8 @@ module _ (f : ℕ → ℕ) where
   unfolding better
   turned b x = go (ltb (b .saving) (f x)) refl
     where
-      go : (t : Bool) → ltb (b .saving) (f x) ≡ t → let c : Best = elim t [ true ↦ record { mask = x; saving = f x } | false ↦ b ] in Stays b x c ⊎ Takes b x c
+      go : (t : Bool) → ltb (b .saving) (f x) ≡ t
+          → let c : Best = elim t [ true ↦ record { mask = x; saving = f x } | false ↦ b ] in Stays b x c ⊎ Takes b x c
       go true e = inr (refl, refl, ltb-true (b .saving) (f x) e)
       go false e = inl ((refl, refl), ltb-false (b .saving) (f x) e)
 

@@ -1,5 +1,5 @@
--- The monomial order only permutes: what does not depend on the order of a list's elements is the same of `ordered l` and of l; and `ordered l` is the
--- one list with l's members in which each mask comes before the next. It rests on the laws of ascending lists and of sums (bits).
+-- The monomial order only permutes: what does not depend on the order of a list's elements is the same of `ordered l` and of l; and `ordered l` is
+-- the one list with l's members in which each mask comes before the next. It rests on the laws of ascending lists and of sums (bits).
 --   fold-ordered                                       == any fold whose turns may be swapped
 --   sum-ordered, length-ordered, mem-ordered           == sums, the length, the members
 --   precedes-less, precedes-equal, precedes-true       == the order by count of ones, then by mask
@@ -79,7 +79,10 @@ module _ (a b : ℕ) where
   unfolding precedes
   precedes-true h = elim (or-split (ltb (ones a) (ones b)) (eqb (ones a) (ones b) && ltb a b) h) [
     | inl e ↦ inl (ltb-true (ones a) (ones b) e)
-    | inr e ↦ inr (eqb-true (ones a) (ones b) (and-true-l (eqb (ones a) (ones b)) (ltb a b) e), ltb-true a b (and-true-r (eqb (ones a) (ones b)) (ltb a b) e))
+    | inr e ↦ inr (
+      eqb-true (ones a) (ones b) (and-true-l (eqb (ones a) (ones b)) (ltb a b) e),
+      ltb-true a b (and-true-r (eqb (ones a) (ones b)) (ltb a b) e),
+    )
   ]
 
 pub precedes-irrefl : (a : ℕ) → precedes a a ≡ true → ⊥

@@ -68,4 +68,5 @@ module _ (P : List Tree → Tree → Type 0) (one : (t : Tree) → P (t ∷ []) 
           let a = take (length l / 2) l in
           let b = drop (length l / 2) l in
           subst₂ P (take-append-drop (length l / 2) l) (sym (folded-halves l h))
-          (join a b (folded a) (folded b) (ih a (first-less l h) (simp length-take (omega arith))) (ih b (rest-less l h) (simp length-drop (omega arith))))
+          (join a b (folded a) (folded b) (ih a (first-less l h) (simp length-take (omega arith)))
+          (ih b (rest-less l h) (simp length-drop (omega arith))))

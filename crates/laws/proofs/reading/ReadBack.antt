@@ -46,7 +46,8 @@ module _ (n : ℕ) (s : List ℕ) where
       ∙ g q b j (xs ++ ts) (drop-past s p (writes xs) (write x ++ b) e₁)
       ∙ ap (λ (i : ℕ). run j n s i (x ∷ (xs ++ ts))) (omega (arith, length-append (writes xs) (write x)))
 
-  node-read : (k : Kind) (xs : List Tree) (t : Tree) → FlagBelow n k → ((ts : List Tree) → push k (xs ++ ts) ≡ some (t ∷ ts)) → Reads xs → Reads (t ∷ [])
+  node-read : (k : Kind) (xs : List Tree) (t : Tree) → FlagBelow n k → ((ts : List Tree) → push k (xs ++ ts) ≡ some (t ∷ ts))
+      → Reads xs → Reads (t ∷ [])
   unfolding Reads
   node-read k xs t f h g p b j ts e =
       let d = pushed k xs (t ∷ []) (sym (ap (push k) (append-nil xs)) ∙ h []) in

@@ -1,5 +1,5 @@
--- What the reader answers at a place: where a whole record stands it is that record, and what is answered stood there. That its bytes are the record's
--- wants a byte below 256, since a mark is two letters as one number; a slice of bytes always meets it. Beyond that it assumes nothing.
+-- What the reader answers at a place: where a whole record stands it is that record, and what is answered stood there. That its bytes are the
+-- record's wants a byte below 256, since a mark is two letters as one number; a slice of bytes always meets it. Beyond that it assumes nothing.
 --   bytesOf k, bytesOf-long     == the bytes of a record, two at least
 --   drop-past                   == what stands behind the bytes that the rest begins with
 --   record-at                   == a whole record is read where the rest begins with it
@@ -47,8 +47,10 @@ abbrev seen : ℕ → ℕ → ℕ → ℕ → Bool → Bool → Outcome Found
 unfolding plain mark ascii
 seen n p m c short cut =
     refuse short badMark p
-    (pick (eqb m (mark (ascii "CO"))) (refuse cut badPayload p (pick (leb c 1) (gives (record { kind = Constant (eqb c 1); next = p + 3 })) (refuses badPayload p)))
-    (pick (eqb m (mark (ascii "VA"))) (refuse cut badPayload p (pick (ltb c n) (gives (record { kind = Flag c; next = p + 3 })) (refuses badPayload p)))
+    (pick (eqb m (mark (ascii "CO")))
+    (refuse cut badPayload p (pick (leb c 1) (gives (record { kind = Constant (eqb c 1); next = p + 3 })) (refuses badPayload p)))
+    (pick (eqb m (mark (ascii "VA")))
+    (refuse cut badPayload p (pick (ltb c n) (gives (record { kind = Flag c; next = p + 3 })) (refuses badPayload p)))
     (pick (eqb m (mark (ascii "AN"))) (plain And p)
     (pick (eqb m (mark (ascii "OR"))) (plain Or p)
     (pick (eqb m (mark (ascii "XO"))) (plain Xor p)
@@ -62,7 +64,8 @@ module _ (n : ℕ) (s : List ℕ) (p : ℕ) where
   at-mark : (x y : ℕ) (b : List ℕ) → drop p s ≡ x ∷ y ∷ b → recordAt n s p ≡ seen n p (x * 256 + y) (getD b 0 0) false (ltb (length s) (p + 3))
   unfolding mark ascii plain
   at-mark x y b e =
-      at-seen ∙ rw (e, sym (getD-drop p s 2 0) ∙ ap (λ (r : List ℕ). getD r 2 0) e, le-ltb (length s) (p + 2) (omega (arith, ap length e, length-drop p s)))
+      let long : ltb (length s) (p + 2) ≡ false = le-ltb (length s) (p + 2) (omega (arith, ap length e, length-drop p s)) in
+      at-seen ∙ rw (e, sym (getD-drop p s 2 0) ∙ ap (λ (r : List ℕ). getD r 2 0) e, long)
 
   at-payload : (x y c : ℕ) (b : List ℕ) → drop p s ≡ x ∷ y ∷ c ∷ b → recordAt n s p ≡ seen n p (x * 256 + y) c false false
   at-payload x y c b e =
@@ -93,9 +96,11 @@ mark-two (u ∷ []) x y h a b e = absurd (omega arith)
 mark-two (u ∷ v ∷ l) x y h a b e = ap₂ {C = List ℕ} (λ c d. c ∷ d ∷ l) (omega arith) (omega arith)
 
 module _ (n : ℕ) (s : List ℕ) (p : ℕ) (r : Found) where
-  read-of : (k : Kind) → FlagBelow n k → p + length (bytesOf k) ≤ length s → (getD s (p + 1) 0 < 256 → drop p s ≡ bytesOf k ++ drop (p + length (bytesOf k)) s)
+  read-of : (k : Kind) → FlagBelow n k → p + length (bytesOf k) ≤ length s
+      → (getD s (p + 1) 0 < 256 → drop p s ≡ bytesOf k ++ drop (p + length (bytesOf k)) s)
       → _≡_ {A = Outcome Found} (gives (record { kind = k; next = p + length (bytesOf k) })) (gives r) → Read n s p r
-  read-of k f l e q = subst (Read n s p) (gives-same q) (record { bytes = e; next = refl; ahead = omega (arith, bytesOf-long k); inside = l; flag = f })
+  read-of k f l e q =
+      subst (Read n s p) (gives-same q) (record { bytes = e; next = refl; ahead = omega (arith, bytesOf-long k); inside = l; flag = f })
 
   loaded-gives : (fits : Bool) (k : Kind) → loaded s p fits k ≡ gives r
       → (p + 3 ≤ length s) × (fits ≡ true) × (_≡_ {A = Outcome Found} (gives (record { kind = k; next = p + 3 })) (gives r))
@@ -115,7 +120,8 @@ module _ (n : ℕ) (s : List ℕ) (p : ℕ) (r : Found) where
         → drop p s ≡ x ∷ y ∷ getD s (p + 2) 0 ∷ drop (p + 3) s
     payload-bytes x y h e l small =
         mark-bytes x y h e small
-        ∙ ap {B = List ℕ} (λ l. x ∷ y ∷ l) (drop-cons s (p + 2) 0 (omega arith) ∙ ap {B = List ℕ} (λ i. getD s (p + 2) 0 ∷ drop i s) (sym (add-suc p 2)))
+        ∙ ap {B = List ℕ} (λ l. x ∷ y ∷ l)
+        (drop-cons s (p + 2) 0 (omega arith) ∙ ap {B = List ℕ} (λ i. getD s (p + 2) 0 ∷ drop i s) (sym (add-suc p 2)))
 
     constant-read : marked s p "CO" ≡ true → loaded s p (leb (getD s (p + 2) 0) 1) (Constant (eqb (getD s (p + 2) 0) 1)) ≡ gives r → Read n s p r
     unfolding marked mark ascii bytesOf
@@ -124,7 +130,8 @@ module _ (n : ℕ) (s : List ℕ) (p : ℕ) (r : Found) where
         let l = loaded-gives (leb c 1) (Constant (eqb c 1)) g in
         let b = payload-bytes 67 79 (lit< tt) t (l .0) in
         let one = leb-true c 1 (l .1) in
-        read-of (Constant (eqb c 1)) tt (l .0) (λ small. b small ∙ ap {B = List ℕ} (λ d. 67 ∷ 79 ∷ d ∷ drop (p + 3) s) (sym (digit-eqb c (omega arith)))) (l .2)
+        read-of (Constant (eqb c 1)) tt (l .0)
+        (λ small. b small ∙ ap {B = List ℕ} (λ d. 67 ∷ 79 ∷ d ∷ drop (p + 3) s) (sym (digit-eqb c (omega arith)))) (l .2)
 
     flag-read : marked s p "VA" ≡ true → loaded s p (ltb (getD s (p + 2) 0) n) (Flag (getD s (p + 2) 0)) ≡ gives r → Read n s p r
     unfolding marked mark ascii bytesOf

@@ -53,7 +53,8 @@ module _ (n : ℕ) (s : List ℕ) (p : ℕ) (ts : List Tree) (h : p < length s) 
     unfolding operands
     run-few r e f = step ∙ rw (e, f)
 
-    pub run-read : (r : Found) (us : List Tree) → recordAt n s p ≡ gives r → push (r .kind) ts ≡ some us → run (suc k) n s p ts ≡ run k n s (r .next) us
+    pub run-read : (r : Found) (us : List Tree) → recordAt n s p ≡ gives r → push (r .kind) ts ≡ some us
+        → run (suc k) n s p ts ≡ run k n s (r .next) us
     unfolding operands
     run-read r us e f = step ∙ rw (e, f)
 

@@ -1,5 +1,5 @@
--- The exclusive or over subsets: how a coefficient of n + 1 flags splits along the highest flag, and that taking coefficients twice gives the function back.
--- It rests on the laws of sums (bits, Sum) and of masks (bits, Mask).
+-- The exclusive or over subsets: how a coefficient of n + 1 flags splits along the highest flag, and that taking coefficients twice gives the
+-- function back. It rests on the laws of sums (bits, Sum) and of masks (bits, Mask).
 --   coefficient-parity                                  == a coefficient as a sum over all settings
 --   coefficient-zero, coefficient-low, coefficient-high == no flag; a mask without the highest flag; a mask with it
 --   coefficient-lower                                   == the coefficients of fewer flags are among those of more
@@ -76,7 +76,8 @@ pub coefficient-high : (n : ℕ) (f : ℕ → Bool) (m : ℕ) → m < 2 ^ n
 coefficient-high n f m h =
     split n f (2 ^ n + m)
     ∙ ap₂ _⊕_ (chosen-ext n (λ s. within s (2 ^ n + m)) (λ s. within s m) f low ∙ sym (coefficient-parity n f m))
-    (chosen-ext n (λ s. within (2 ^ n + s) (2 ^ n + m)) (λ s. within s m) (λ s. f (2 ^ n + s)) high ∙ sym (coefficient-parity n (λ s. f (2 ^ n + s)) m))
+    (chosen-ext n (λ s. within (2 ^ n + s) (2 ^ n + m)) (λ s. within s m) (λ s. f (2 ^ n + s)) high
+    ∙ sym (coefficient-parity n (λ s. f (2 ^ n + s)) m))
   where
     above : (s : ℕ) → 2 ^ n + s ≡ 1 * 2 ^ n + s
     above s = omega arith

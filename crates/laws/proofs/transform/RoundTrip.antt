@@ -6,9 +6,9 @@
 --   coefficient-is                              == the words hold the coefficients
 --   table-polynomial, table-only                == their polynomial is the table, and no other coefficients' polynomial is
 --   back-polynomial                             == entry s of what the way back gives is the polynomial with the coefficients at the flags of s
-use mathlib.Core.Bool.{Bool, true, false, not}
+use mathlib.Core.Bool.{Bool, false, not}
 use mathlib.Core.List.{List, map}
-use mathlib.Core.Path.{_≡_, refl, sym, ap, _∙_}
+use mathlib.Core.Path.{_≡_, sym, ap, _∙_}
 use Prim.Native.Nat.{ℕ, _^_, _≤_, _<_}
 use native.Mathlib.Omega.{arith}
 use lib.Dec.{ltb}
@@ -23,6 +23,7 @@ use Rattle.rules.specs.Polynomial.{polynomial}
 use Rattle.rules.specs.Table.{settings, entry, complete}
 use Rattle.laws.proofs.transform.Mobius.{coefficient-ext, coefficient-twice}
 use Rattle.laws.proofs.calls.Outcome.{gives-same, refuse-gives}
+use Rattle.bits.proofs.Bit.{bit-digit}
 use Rattle.bits.proofs.Tabulated.{length-map-upto, getD-map-upto, map-upto-of}
 use Rattle.laws.proofs.transform.Packed.{length-words, packed-words, stray-words, words-ext, words-packed}
 use Rattle.laws.proofs.transform.Zhegalkin.{polynomial-coefficient, polynomial-unique}
@@ -101,12 +102,7 @@ module _ (n : ℕ) (ws : List ℕ) (room : ℕ) (t : List ℕ) where
 
 -- the function's digits as a table
 digits-entry : (n : ℕ) (g : ℕ → Bool) (s : ℕ) → s < 2 ^ n → entry (map (λ r. digit (g r)) (settings n)) s ≡ g s
-unfolding bit
-digits-entry n g s h = ap (λ (w : ℕ). bit w 0) (getD-map-upto (2 ^ n) (λ r. digit (g r)) s h) ∙ low (g s)
-  where
-    low : (b : Bool) → bit (digit b) 0 ≡ b
-    low true = refl
-    low false = refl
+digits-entry n g s h = ap (λ (w : ℕ). bit w 0) (getD-map-upto (2 ^ n) (λ r. digit (g r)) s h) ∙ bit-digit (g s)
 
 digits-ext : (n : ℕ) (f g : ℕ → Bool) → ((s : ℕ) → s < 2 ^ n → f s ≡ g s)
     → map (λ s. digit (f s)) (settings n) ≡ map (λ s. digit (g s)) (settings n)

@@ -32,6 +32,7 @@ polynomial-coefficient n c s =
 pub polynomial-table : (n : ℕ) (f : ℕ → Bool) (s : ℕ) → s < 2 ^ n → polynomial n (coefficient n f) (bit s) ≡ f s
 polynomial-table n f s h = polynomial-coefficient n (coefficient n f) s ∙ coefficient-twice n f s h
 
-pub polynomial-unique : (n : ℕ) (f c : ℕ → Bool) → ((s : ℕ) → s < 2 ^ n → polynomial n c (bit s) ≡ f s) → (m : ℕ) → m < 2 ^ n → c m ≡ coefficient n f m
+pub polynomial-unique : (n : ℕ) (f c : ℕ → Bool) → ((s : ℕ) → s < 2 ^ n → polynomial n c (bit s) ≡ f s)
+    → (m : ℕ) → m < 2 ^ n → c m ≡ coefficient n f m
 polynomial-unique n f c h m l =
     sym (coefficient-twice n c m l) ∙ coefficient-ext n (coefficient n c) f m (λ s k. sym (polynomial-coefficient n c s) ∙ h s k)

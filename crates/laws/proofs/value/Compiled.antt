@@ -1,5 +1,5 @@
--- What the compiler writes for a table has the table's bit at every setting. It rests on the value of the cleaned form (Value) and on the exclusive or
--- over subsets (Mobius).
+-- What the compiler writes for a table has the table's bit at every setting.
+-- It rests on the value of the cleaned form (Value) and on the exclusive or over subsets (Mobius).
 --   ascending-form, parity-form      == a form ascends; its parity of masks within a setting is the exclusive or over subsets
 --   value-form                       == the cleaned form of coefficients c, at a setting
 --   compiled-table                   == the compiled tree, at a setting

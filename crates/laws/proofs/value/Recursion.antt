@@ -21,7 +21,8 @@ use Rattle.bits.specs.Sum.{union}
 use Rattle.bits.proofs.Truth.{and-true-l, and-true-r}
 use Rattle.bits.proofs.Fixed.{below-less, fixed-step}
 use Rattle.bits.proofs.Range.{mem-keep, mem-from}
-use Rattle.rules.specs.Cleanup.{atop, singles, isFamily, isPartial, bestFamily, partialAt, partialOr, meets, covered, stripped, isCube, cubeSaving, bestCube, withRest, cubeAt, commonCube, absorption, cheaper, contest, turn, cleanup}
+use Rattle.rules.specs.Cleanup.{atop, singles, isFamily, isPartial, bestFamily, partialAt, partialOr, meets, covered, stripped, isCube, cubeSaving}
+use Rattle.rules.specs.Cleanup.{bestCube, withRest, cubeAt, commonCube, absorption, cheaper, contest, turn, cleanup}
 use Rattle.rules.specs.Form.{cube, orChain, rawForm, rawCost, literals}
 use Rattle.rules.specs.Monomial.{constant, monomials}
 use Rattle.rules.specs.Tree.{Tree, CO, AN, XO, cost}
@@ -105,4 +106,5 @@ module _ (g h : List ℕ → Tree) (l : List ℕ) (e : (x : List ℕ) → litera
 pub cleanup-turn : (l : List ℕ) → cleanup l ≡ turn cleanup l
 unfolding cleanup
 cleanup-turn l =
-    fixed-step literals (CO false) turn l ∙ turn-ext (below literals (CO false) cleanup l) cleanup l (λ x h. below-less literals (CO false) cleanup l x h)
+    fixed-step literals (CO false) turn l
+    ∙ turn-ext (below literals (CO false) cleanup l) cleanup l (λ x h. below-less literals (CO false) cleanup l x h)

@@ -1,5 +1,6 @@
 -- What one turn of the cleanup can give: the raw form, or what one of its rules makes with any choice that the rule allows. So what holds of each of
--- these trees holds of the turn, whichever is cheapest. It rests on the masks that the rules choose among (Recursion) and the laws of lists (bits, Range).
+-- these trees holds of the turn, whichever is cheapest.
+-- It rests on the masks that the rules choose among (Recursion) and the laws of lists (bits, Range).
 --   Partial l m          == the monomial m of l is one that rule 2 may choose
 --   Common l c           == the cube c is one that rule 3 may choose in l
 --   Turn g l P           == P holds of every tree that a turn at l may give, with g for "the cleaned form of"
@@ -19,7 +20,8 @@ use Rattle.bits.specs.Range.{keep, all, mem, same}
 use Rattle.bits.proofs.Every.{Every, every-append}
 use Rattle.bits.proofs.Truth.{and-true-l, and-true-r}
 use Rattle.bits.proofs.Range.{mem-keep, same-true}
-use Rattle.rules.specs.Cleanup.{family, atop, singles, isFamily, isPartial, bestFamily, partialAt, partialOr, covered, stripped, cubeSaving, bestCube, withRest, cubeAt, commonCube, absorb, absorption, cheaper, contest, turn}
+use Rattle.rules.specs.Cleanup.{family, atop, singles, isFamily, isPartial, bestFamily, partialAt, partialOr, covered, stripped, cubeSaving}
+use Rattle.rules.specs.Cleanup.{bestCube, withRest, cubeAt, commonCube, absorb, absorption, cheaper, contest, turn}
 use Rattle.rules.specs.Form.{cube, orChain, rawForm}
 use Rattle.rules.specs.Monomial.{constant, monomials}
 use Rattle.rules.specs.Tree.{Tree, CO, AN, XO, NO, cost}
@@ -87,7 +89,9 @@ module _ (g : List ℕ → Tree) (l : List ℕ) (P : Tree → Type 0) (h : Turn 
   cube-at : (c : ℕ) → bestCube g l ≡ c → Every P (cubeAt g l c)
   unfolding cubeAt bestCube
   cube-at zero e = tt
-  cube-at (suc c) e = let u = cubes-mem l (suc c) (greatest-suc (cubeSaving g l) (cubes l) c e) in (h .common (suc c) (record { nonzero = u .0; many = u .1 }), tt)
+  cube-at (suc c) e =
+      let u = cubes-mem l (suc c) (greatest-suc (cubeSaving g l) (cubes l) c e) in
+      (h .common (suc c) (record { nonzero = u .0; many = u .1 }), tt)
 
   common-every : Every P (commonCube g l)
   unfolding commonCube
@@ -100,19 +104,22 @@ module _ (g : List ℕ → Tree) (l : List ℕ) (P : Tree → Type 0) (h : Turn 
       go : (k : List ℕ) → monomials l ≡ k → Every P (absorb (constant l) k)
       go [] e = tt
       go (m ∷ []) e = tt
-      go (m ∷ o ∷ []) e = pick (Every P) (within m o) (atop (constant l) (AN (cube m) (NO (cube (o - m)))) ∷ []) [] (λ w. (h .absorbed m o e w, tt)) (λ w. tt)
+      go (m ∷ o ∷ []) e =
+          pick (Every P) (within m o) (atop (constant l) (AN (cube m) (NO (cube (o - m)))) ∷ []) [] (λ w. (h .absorbed m o e w, tt)) (λ w. tt)
       go (m ∷ o ∷ p ∷ k) e = tt
 
   contest-ind : P (contest g l)
   unfolding contest
   contest-ind =
       cheaper-ind P (partialOr g l ++ commonCube g l ++ absorption l) (rawForm l) (h .raw)
-      (every-append P (partialOr g l ++ commonCube g l) (absorption l) (every-append P (partialOr g l) (commonCube g l) partial-every common-every) absorb-every)
+      (every-append P (partialOr g l ++ commonCube g l) (absorption l)
+      (every-append P (partialOr g l) (commonCube g l) partial-every common-every) absorb-every)
 
   pub turn-ind : P (turn g l)
   unfolding turn isFamily
   turn-ind =
-      pick P (leb 1 (length (monomials l))) (elim (isFamily l) [ true ↦ atop (constant l) (orChain (singles l)) | false ↦ contest g l ]) (CO (constant l))
+      pick P (leb 1 (length (monomials l)))
+      (elim (isFamily l) [ true ↦ atop (constant l) (orChain (singles l)) | false ↦ contest g l ]) (CO (constant l))
       (λ e. pick P (isFamily l) (atop (constant l) (orChain (singles l))) (contest g l)
       (λ w. h .whole (ltb-true 0 (singles l) (and-true-l _ (same (monomials l) (family (singles l))) w))
       (same-true (monomials l) (family (singles l)) (and-true-r (ltb 0 (singles l)) _ w)))

@@ -1,6 +1,6 @@
--- The cleaned form has the value of the form: at each setting it is the parity of the masks within that setting. Rule by rule, for any choice that a rule
--- allows, so it does not depend on which choice is the cheapest. It rests on the values of the parts (ValueParts), the parts of a form (Covered), their
--- literals (Literals), the cases of a turn (Turn) and the cleanup's equation (Recursion).
+-- The cleaned form has the value of the form: at each setting it is the parity of the masks within that setting. Rule by rule, for any choice that a
+-- rule allows, so it does not depend on which choice is the cheapest. It rests on the values of the parts (ValueParts), the parts of a form
+-- (Covered), their literals (Literals), the cases of a turn (Turn) and the cleanup's equation (Recursion).
 --   Means t l        == the tree t has the value of the form l at every setting
 --   value-turn       == one turn has it, if what it asks for has it
 --   value-cleanup    == so the cleaned form has it

@@ -1,6 +1,6 @@
 -- The values of the parts that the cleanup puts together: products, OR chains, balanced folds, raw forms, and a constant on top.
--- It rests on the laws of places and of sums (bits, Sets and Sum), on the induction over parts (Parts), on the polynomial's products (Zhegalkin) and on the monomial
--- order (Ordered).
+-- It rests on the laws of places and of sums (bits, Sets and Sum), on the induction over parts (Parts),
+-- on the polynomial's products (Zhegalkin) and on the monomial order (Ordered).
 --   value-cube, value-orChain   == a product is 1 where the setting has all flags of the mask, an OR chain where it has one of them
 --   value-folded, value-rawForm == a balanced fold is the parity of its terms, a raw form that of the masks within the setting
 --   value-atop                  == a constant on top

@@ -33,7 +33,8 @@ returns : tie.Need-returns
 returns c =
     let m = c .before .args .m in
     let ws = c .before .args .words .now in
-    subst (λ (x : ℕ). Raised ws m (set ws (m / 64) (bitOr (getD ws (m / 64) 0) x))) (sym (one-shl 64 (m % 64) (omega arith))) (raised ws m (c .before .pre))
+    subst (λ (x : ℕ). Raised ws m (set ws (m / 64) (bitOr (getD ws (m / 64) 0) x)))
+    (sym (one-shl 64 (m % 64) (omega arith))) (raised ws m (c .before .pre))
 
 pub set-spec : {M : Type 1} → statement M
 set-spec =

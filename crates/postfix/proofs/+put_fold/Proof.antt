@@ -1,5 +1,5 @@
--- The proof of the cycle of calls {put_fold}. The measure is the number of terms: of two or more terms each half has fewer. No term is the constant 0, one
--- term its product, and two or more the halves' folds and XO.
+-- The proof of the cycle of calls {put_fold}. The measure is the number of terms: of two or more terms each half has fewer. No term is the constant
+-- 0, one term its product, and two or more the halves' folds and XO.
 use borrow.Author.Needs.{needs}
 use mathlib.Core.Bool.{false}
 use mathlib.Core.Path.{_≡_, sym, subst}
@@ -60,14 +60,14 @@ module _ (t : ℕ) where
   none c = let a = c .before .before .before .args in terms-none (a .terms .now) (a .from) (a .count) (c .if1 .taken)
 
   one : (c : put-fold-lts.Then2 (calls t) (put-fold-at t) put-fold.Post)
-      → whole (c .before .before .before .before) ≡ cube (getD (c .before .before .before .before .args .terms .now) (c .before .before .before .before .args .from) 0)
+      → let s = c .before .before .before .before in whole s ≡ cube (getD (s .args .terms .now) (s .args .from) 0)
   one c = let a = c .before .before .before .before .args in terms-one (a .terms .now) (a .from) (a .count) (omega arith) (c .if2 .taken)
 
   several : (c : put-fold-lts.Else2 (calls t) (put-fold-at t) put-fold.Post) → 2 ≤ c .before .before .before .before .args .count
   several c = omega arith
 
   more : (c : put-fold-lts.Else2 (calls t) (put-fold-at t) put-fold.Post)
-      → whole (c .before .before .before .before) ≡ XO (first (c .before .before .before .before)) (second (c .before .before .before .before))
+      → let s = c .before .before .before .before in whole s ≡ XO (first s) (second s)
   more c =
       let s = c .before .before .before .before in
       terms-halves (s .args .terms .now) (s .args .from) (s .args .count) (s .pre .1 .0) (several c)

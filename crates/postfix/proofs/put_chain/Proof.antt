@@ -1,5 +1,5 @@
--- `postfix::put_chain` meets its contract. The loop's invariant: there is room for the links that are left, and whoever writes them from here on has written
--- all links from the loop's start. The measure is what is left of the mask, which falls with its lowest one.
+-- `postfix::put_chain` meets its contract. The loop's invariant: there is room for the links that are left, and whoever writes them from here on has
+-- written all links from the loop's start. The measure is what is left of the mask, which falls with its lowest one.
 use mathlib.Core.List.{List, [], _∷_}
 use Prim.Native.Nat.{ℕ, _-_, _*_, _^_, _<_}
 use native.Mathlib.Nat.{lt-trans}
@@ -79,20 +79,28 @@ put-mark-requires c κs =
     let i = f .before .before in
     room-operator (mark (start i)) (left i) (more i) (word i) (f .put-leaf2 .ensures) (i .before .loop .inv .1)
 
+-- at a turn's end: where the flag was put, and where the turn began
+abbrev flag-put : tie.After-slice-known4 Inv-loop μ-loop → tie.After-put-leaf2 Inv-loop μ-loop
+flag-put c = c .before .before .before .before .before .before
+
+abbrev turn : tie.After-slice-known4 Inv-loop μ-loop → tie.In-loop Inv-loop μ-loop
+turn c = flag-put c .before .before
+
 sub-left-2 : tie.Need-sub-left-2 Inv-loop μ-loop
-sub-left-2 c = more (c .before .before .before .before .before .before .before .before)
+sub-left-2 c = more (turn c)
 
 loop-less : tie.Need-loop-less Inv-loop μ-loop
-loop-less c = let i = c .before .before .before .before .before .before .before .before in clear-lt 64 (left i) (more i) (word i)
+loop-less c = let i = turn c in clear-lt 64 (left i) (more i) (word i)
 
 loop-again : tie.Need-loop-again Inv-loop μ-loop
 loop-again c =
     let g = c .before .before in
-    let f = g .before .before .before .before in
-    let i = f .before .before in (
+    let f = flag-put c in
+    let i = turn c in (
       lt-trans (clear-lt 64 (left i) (more i) (word i)) (word i),
       room-rest (mark (start i)) (left i) (more i) (word i) (f .put-leaf2 .ensures) (g .put-mark .ensures) (i .before .loop .inv .1),
-      λ b after w. i .before .loop .inv .2 b after (links-more (mark (start i)) (left i) (more i) (word i) (f .put-leaf2 .ensures) (g .put-mark .ensures) w),
+      λ b after w. i .before .loop .inv .2 b after
+          (links-more (mark (start i)) (left i) (more i) (word i) (f .put-leaf2 .ensures) (g .put-mark .ensures) w),
     )
 
 -- after the loop nothing is left

@@ -15,7 +15,8 @@ same-length c = search needs
 returns : tie.Need-returns
 returns c =
     let s = c .before .before .before .before .before in
-    put-eq (sym (write-orChain (s .args .mask) (s .pre .0))) (sym (records-orChain (s .args .mask) (s .pre .0))) (c .before .before .put-chain .ensures)
+    put-eq (sym (write-orChain (s .args .mask) (s .pre .0))) (sym (records-orChain (s .args .mask) (s .pre .0)))
+    (c .before .before .put-chain .ensures)
 
 pub put-or-chain-spec : {M : Type 1} → statement M
 put-or-chain-spec = tie.close (tie.spec put-chain-requires same-length returns)

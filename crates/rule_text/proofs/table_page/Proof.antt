@@ -1,5 +1,5 @@
--- `rule_text::table_page` meets its contract: the table's entries are the digits' values, the compiler does not refuse them, and the lines of what it wrote are
--- the report.
+-- `rule_text::table_page` meets its contract: the table's entries are the digits' values, the compiler does not refuse them,
+-- and the lines of what it wrote are the report.
 use mathlib.Core.List.{List}
 use mathlib.Core.Path.{sym, ap, _∙_}
 use Prim.Native.Nat.{ℕ, _≤_}
@@ -7,6 +7,7 @@ use native.Mathlib.Omega.{arith}
 use lib.ListN.{length, replicate}
 use lib.Seq.{length-take-le}
 use borrow.Author.Needs.{needs}
+use Rattle.rules.specs.Limits.{byteLimit}
 use Rattle.rules.specs.Calls.{compile}
 use Rattle.compiler.specs.declared.Expression.{Expression}
 use Rattle.text.specs.TableDigits.{values}
@@ -62,7 +63,7 @@ module _ (b : tie.After-build-anf-expr) where
     room = b .build-anf-expr .kept .1 .1 .0;
     told =
         b .build-anf-expr .ensures .0
-        ∙ ap (λ (t : List ℕ). compile flags t 963)
+        ∙ ap (λ (t : List ℕ). compile flags t byteLimit)
         (entries-front digits (replicate 64 0) _ (few start) (b .before .before .before .before .entries .ensures));
   }
 

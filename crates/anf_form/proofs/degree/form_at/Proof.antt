@@ -1,20 +1,23 @@
 -- `anf_form::degree::form_at` meets its contract: the masks of one word are its ones (Held).
 use mathlib.Core.Path.{_∙_}
-use lib.ListN.{getD}
-use Rattle.form.proofs.Masks.{masks-bits}
 use Rattle.anf_form.proofs.Held.{block-is}
 use borrow.Author.Needs.{needs}
 use Rattle.anf_form.proofs.degree.form_at.Statement.{statement}
 use Rattle.anf_form.proofs.degree.form_at.Tie as tie
 
-mul-word : tie.Need-mul-word
-mul-word c = search needs
+mul-of-coefficients : tie.Need-mul-of-coefficients
+mul-of-coefficients c = search needs
 
-shared-slice-read-word : tie.Need-shared-slice-read-word
-shared-slice-read-word c = search needs
+shared-slice-read-of-coefficients : tie.Need-shared-slice-read-of-coefficients
+shared-slice-read-of-coefficients c = search needs
+
+of-coefficients-requires : tie.Need-of-coefficients-requires
+of-coefficients-requires c κs = search needs
 
 returns : tie.Need-returns
-returns c = let a = c .before .args in masks-bits record { word = getD (a .coefficients .now) (a .i) 0 } ∙ block-is (a .i) (a .coefficients .now)
+returns c =
+    let a = c .before .before .before .args in
+    c .of-coefficients .ensures ∙ block-is (a .i) (a .coefficients .now)
 
 pub form-at-spec : {M : Type 1} → statement M
-form-at-spec = tie.close (tie.spec mul-word shared-slice-read-word returns)
+form-at-spec = tie.close (tie.spec mul-of-coefficients shared-slice-read-of-coefficients of-coefficients-requires returns)

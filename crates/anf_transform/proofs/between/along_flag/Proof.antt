@@ -1,5 +1,5 @@
--- `anf_transform::between::along_flag` meets its contract. The loop's invariant: the words before the next block are joined, and the others are as they
--- were; the words are a whole number of blocks.
+-- `anf_transform::between::along_flag` meets its contract. The loop's invariant: the words before the next block are joined, and the others are as
+-- they were; the words are a whole number of blocks.
 use mathlib.Core.Path.{_≡_}
 use Prim.Native.Nat.{_+_, _-_, _*_, _^_, _≤_}
 use native.Mathlib.Omega.{arith}
@@ -17,7 +17,8 @@ abbrev μ-loop : tie.MeasureT-loop
 μ-loop words₀ j count step base₀ words base = length words₀ - base
 
 -- the block that a turn joins is within the words
-room : (c : tie.In-loop Inv-loop μ-loop) → let s = c .before .before .before in c .before .loop .base + 2 * 2 ^ s .args .j ≤ length (s .args .words .now)
+room : (c : tie.In-loop Inv-loop μ-loop)
+    → let s = c .before .before .before in c .before .loop .base + 2 * 2 ^ s .args .j ≤ length (s .args .words .now)
 room c =
     let l = c .before .loop in
     let s = c .before .before .before in
@@ -62,4 +63,5 @@ returns c =
     rw e at (inv .2 .changed)
 
 pub along-flag-spec : {M : Type 1} → statement M
-along-flag-spec = tie.close (tie.spec Inv-loop μ-loop shl-step loop-holds join-halves-requires mul-base add-base loop-less loop-again same-length returns)
+along-flag-spec = tie.close
+    (tie.spec Inv-loop μ-loop shl-step loop-holds join-halves-requires mul-base add-base loop-less loop-again same-length returns)

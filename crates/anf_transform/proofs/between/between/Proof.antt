@@ -1,5 +1,5 @@
--- `anf_transform::between::between` meets its contract. The loop's invariant: words that held the XOR over subsets for the six lowest flags hold it for
--- the flags done too.
+-- `anf_transform::between::between` meets its contract.
+-- The loop's invariant: words that held the XOR over subsets for the six lowest flags hold it for the flags done too.
 use mathlib.Core.Bool.{Bool}
 use mathlib.Core.Path.{_≡_, refl, _∙_}
 use Prim.Native.Nat.{ℕ, _+_, _-_, _≤_}

@@ -57,5 +57,5 @@ returns c =
 
 pub inside-spec : {M : Type 1} → statement M
 inside-spec = tie.close
-    (tie.spec Inv-loop μ-loop loop-holds mul-transform-word slice-read-transform-word transform-word-requires mul-words slice-write-words add-i loop-less
-    loop-again same-length returns)
+    (tie.spec Inv-loop μ-loop loop-holds mul-transform-word slice-read-transform-word transform-word-requires mul-words slice-write-words add-i
+    loop-less loop-again same-length returns)

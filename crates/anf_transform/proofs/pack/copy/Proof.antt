@@ -1,4 +1,5 @@
--- `anf_transform::pack::copy` meets its contract. The loop's invariant: the first i words are those of `from`. The measure is what is left of the length.
+-- `anf_transform::pack::copy` meets its contract. The loop's invariant: the first i words are those of `from`.
+-- The measure is what is left of the length.
 use mathlib.Core.Path.{_≡_, refl, ap, _∙_}
 use Prim.Native.Nat.{ℕ, _-_, _≤_}
 use native.Mathlib.Omega.{arith}

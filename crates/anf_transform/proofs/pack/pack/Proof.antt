@@ -1,4 +1,5 @@
--- `anf_transform::pack::pack` meets its contract. The loop's invariant: the first i words are those of the table. The measure is what is left of the words.
+-- `anf_transform::pack::pack` meets its contract. The loop's invariant: the first i words are those of the table.
+-- The measure is what is left of the words.
 use mathlib.Core.Path.{_≡_, ap, _∙_}
 use Prim.Native.Nat.{ℕ, _+_, _-_, _*_, _^_, _≤_, _<_, min}
 use native.Mathlib.Nat.{min-le-right}

@@ -1,5 +1,5 @@
--- `anf_transform::pack::unpack` meets its contract. The loop's invariant: the words from i on have given way to their bits, and those below are as they
--- were. The measure is i.
+-- `anf_transform::pack::unpack` meets its contract. The loop's invariant: the words from i on have given way to their bits,
+-- and those below are as they were. The measure is i.
 use mathlib.Core.List.{List, map}
 use mathlib.Core.Path.{_≡_, refl, sym, ap, ap₂, _∙_}
 use Prim.Native.Nat.{ℕ, _+_, _-_, _*_, _^_, _≤_, min}

@@ -12,9 +12,12 @@ use Rattle.examination_text.proofs.Records.{record-short, record-long, 
 use Rattle.examination_text.proofs.notation.is_record.Statement.{statement}
 use Rattle.examination_text.proofs.notation.is_record.Tie as tie
 
--- the text, and where its first two bytes are capital letters
+-- where the call began, seen from where the first byte was tested; the text; and where its first two bytes are capital letters
+abbrev start : tie.After-is-capital → tie.Start
+start i = i .before .before .before .before .before
+
 abbrev text : tie.After-is-capital2 → List ℕ
-text i = i .before .before .before .before .before .before .before .before .args .text .now
+text i = start (i .before .before .before) .args .text .now
 
 module _ (c : tie.Else4) where
   first : isCapital (getD (text (c .before)) 0 0) ≡ true
@@ -38,7 +41,7 @@ is-capital-requires c κs = search needs
 returns-3 : tie.Need-returns-3
 returns-3 c =
     let i = c .before in
-    sym (record-first (i .before .before .before .before .before .args .text .now) (omega arith) (sym (i .is-capital .ensures) ∙ not-true _ (c .if3 .taken)))
+    sym (record-first (start i .args .text .now) (omega arith) (sym (i .is-capital .ensures) ∙ not-true _ (c .if3 .taken)))
 
 shared-slice-read-is-capital-2 : tie.Need-shared-slice-read-is-capital-2
 shared-slice-read-is-capital-2 c = search needs

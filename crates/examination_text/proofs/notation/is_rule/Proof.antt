@@ -1,5 +1,5 @@
--- `examination_text::notation::is_rule` meets its contract. The loop's invariant: the line is records exactly where its parts from the place on are. The measure
--- is what is left of the line.
+-- `examination_text::notation::is_rule` meets its contract.
+-- The loop's invariant: the line is records exactly where its parts from the place on are. The measure is what is left of the line.
 use mathlib.Core.Bool.{true}
 use mathlib.Core.Path.{_≡_, sym, ap, _∙_}
 use Prim.Native.Nat.{_-_, _≤_}
@@ -43,7 +43,9 @@ is-record-requires c κs = search needs
 
 -- where the part is a record
 good : (c : tie.Else2 Inv-loop μ-loop)
-    → (let u = c .before .before .before in isRecord (piece (u .before .before .before .before .args .line .now) (u .before .loop .start) (u .until .result)) ≡ true)
+    → (let u = c .before .before .before in
+    let line = u .before .before .before .before .args .line .now in
+    isRecord (piece line (u .before .loop .start) (u .until .result)) ≡ true)
 good c = sym (c .before .is-record .ensures) ∙ not-false _ (c .if2 .left)
 
 returns-2 : tie.Need-returns-2 Inv-loop μ-loop

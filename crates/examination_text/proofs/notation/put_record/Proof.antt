@@ -22,10 +22,13 @@ module _ (s : tie.Start) where
       let t = s .args .text .now in
       omega (arith, size, length-take-le 2 t (size .0), length-bytes t)
 
--- where it has three
+-- where it has three: where the letters were put, and where the call began
 module _ (c : tie.Else1) where
+  abbrev put : tie.After-put-text
+  put = c .before .before .before
+
   abbrev start : tie.Start
-  start = c .before .before .before .before .before .before .before .before
+  start = put .before .before .before .before .before
 
   three : length (start .args .text .now) ≡ 3
   three = omega (arith, size start, c .if1 .left)
@@ -46,10 +49,13 @@ returns c =
     stored-eq (sym (bytes-two (s .args .text .now) (c .if1 .taken))) (p .put-text .ensures)
 
 shared-slice-read-t13 : tie.Need-shared-slice-read-t13
-shared-slice-read-t13 c = let s = c .before .before .before .before .before .before .before .before .before in omega (arith, size s)
+shared-slice-read-t13 c = omega (arith, size (start (c .before)))
 
 sub-t14 : tie.Need-sub-t14
-sub-t14 c = let e = c .before in let s = e .before .before .before .before .before .before .before .before in omega (arith, record-digit (s .args .text .now) (s .pre .0) (three e))
+sub-t14 c =
+    let e = c .before in
+    let s = start e in
+    omega (arith, record-digit (s .args .text .now) (s .pre .0) (three e))
 
 slice-aggregate-put-text-2 : tie.Need-slice-aggregate-put-text-2
 slice-aggregate-put-text-2 c = search needs
@@ -58,7 +64,8 @@ put-text-requires-2 : tie.Need-put-text-requires-2
 put-text-requires-2 c κs =
     let e = c .before .before .before in
     let s = start e in
-    room-next ((getD (s .args .text .now) 2 0 - 48) ∷ []) (room-eq (bytes-three (s .args .text .now) (three e)) (s .pre .1)) (e .before .before .before .put-text .ensures)
+    room-next ((getD (s .args .text .now) 2 0 - 48) ∷ []) (room-eq (bytes-three (s .args .text .now) (three e)) (s .pre .1))
+    (put e .put-text .ensures)
 
 same-length-2 : tie.Need-same-length-2
 same-length-2 c = search needs
@@ -68,7 +75,8 @@ returns-2 c =
     let q = c .before .before in
     let e = q .before .before .before .before in
     let s = start e in
-    stored-eq (sym (bytes-three (s .args .text .now) (three e))) (stored-append (e .before .before .before .put-text .ensures) (q .put-text2 .ensures))
+    stored-eq (sym (bytes-three (s .args .text .now) (three e)))
+    (stored-append (put e .put-text .ensures) (q .put-text2 .ensures))
 
 pub put-record-spec : {M : Type 1} → statement M
 put-record-spec =

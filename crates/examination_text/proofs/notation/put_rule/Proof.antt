@@ -1,5 +1,5 @@
--- `examination_text::notation::put_rule` meets its contract. The loop's invariant is `Walk`: the records from the place on are left to write. The measure is what is
--- left of the line.
+-- `examination_text::notation::put_rule` meets its contract. The loop's invariant is `Walk`: the records from the place on are left to write.
+-- The measure is what is left of the line.
 use mathlib.Core.Path.{sym, ap}
 use Prim.Native.Nat.{_-_}
 use native.Mathlib.Omega.{arith}
@@ -38,14 +38,21 @@ part-put-record-start c = omega (arith, c .until .ensures .behind, c .until .ens
 part-put-record-end : tie.Need-part-put-record-end Inv-loop μ-loop
 part-put-record-end c = omega (arith, c .until .ensures .behind, c .until .ensures .within)
 
+-- where the call began, seen from where a part's end was found
+abbrev start : tie.After-until Inv-loop μ-loop → tie.Start Inv-loop μ-loop
+start u = u .before .before .before .before .before
+
 put-record-requires : tie.Need-put-record-requires Inv-loop μ-loop
 put-record-requires c κs =
     let u = c .before .before in
-    (rule-record (u .until .ensures) (u .before .loop .inv .records), walk-room (u .before .loop .inv) (u .until .ensures) (u .before .before .before .before .before .pre .1))
+    let l = u .before .loop in
+    (rule-record (u .until .ensures) (l .inv .records), walk-room (l .inv) (u .until .ensures) (start u .pre .1))
 
 -- where the part was the last
 ended : (c : tie.Then2 Inv-loop μ-loop)
-    → (let q = c .before .before .before in let a = q .before .before .before .before .before .before .before .before .args in Stored (expression (recordTexts (a .line .now))) 0 (q .put-record .result) (a .out .now) (q .put-record .last .1 .0))
+    → (let q = c .before .before .before in
+    let a = start (q .before .before .before) .args in
+    Stored (expression (recordTexts (a .line .now))) 0 (q .put-record .result) (a .out .now) (q .put-record .last .1 .0))
 ended c =
     let q = c .before .before .before in
     let u = q .before .before .before in

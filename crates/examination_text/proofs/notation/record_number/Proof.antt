@@ -1,5 +1,5 @@
--- `examination_text::notation::record_number` meets its contract. The loop's invariant: the number reached, and the number among the records from the place on, are
--- together one more than the number. The measure is what is left of the line.
+-- `examination_text::notation::record_number` meets its contract. The loop's invariant: the number reached, and the number among the records from the
+-- place on, are together one more than the number. The measure is what is left of the line.
 use mathlib.Core.List.{List}
 use mathlib.Core.Path.{_≡_, sym, ap}
 use Prim.Native.Nat.{ℕ, _+_, _-_, _≤_}
@@ -11,7 +11,8 @@ use Rattle.examination_text.proofs.notation.record_number.Statement.{st
 use Rattle.examination_text.proofs.notation.record_number.Tie as tie
 
 abbrev Inv-loop : tie.InvT-loop
-Inv-loop line place start₀ left₀ number₀ start left number = (start ≤ length line) × (number ≤ start + 1) × (number + recordOf (rest line start) left ≡ 1 + recordOf (recordTexts line) place)
+Inv-loop line place start₀ left₀ number₀ start left number =
+    (start ≤ length line) × (number ≤ start + 1) × (number + recordOf (rest line start) left ≡ 1 + recordOf (recordTexts line) place)
 
 abbrev μ-loop : tie.MeasureT-loop
 μ-loop line place start₀ left₀ number₀ start left number = length line - start
@@ -21,7 +22,9 @@ unfolding recordOf
 returns c = let a = c .before .before .args in sym (ap (λ (ts : List (List ℕ)). recordOf ts (a .place)) (texts-none (a .line .now) (c .if1 .taken)))
 
 loop-holds : tie.Need-loop-holds Inv-loop μ-loop
-loop-holds c = let a = c .before .before .args in (omega arith, omega arith, ap (λ (ts : List (List ℕ)). 1 + recordOf ts (a .place)) (sym (texts-some (a .line .now) (c .if1 .left))))
+loop-holds c =
+    let a = c .before .before .args in
+    (omega arith, omega arith, ap (λ (ts : List (List ℕ)). 1 + recordOf ts (a .place)) (sym (texts-some (a .line .now) (c .if1 .left))))
 
 until-requires : tie.Need-until-requires Inv-loop μ-loop
 until-requires c κs = c .loop .inv .0
@@ -58,7 +61,11 @@ loop-again : tie.Need-loop-again Inv-loop μ-loop
 loop-again c =
     let u = c .before .before in
     let e = u .until .ensures in
-    (omega (arith, e .within), omega (arith, e .behind, u .before .loop .inv .1), omega (arith, u .before .loop .inv .2, number-more e (u .before .loop .left) (c .if3 .left) (c .before .if2 .left)))
+    let l = u .before .loop in (
+      omega (arith, e .within),
+      omega (arith, e .behind, l .inv .1),
+      omega (arith, l .inv .2, number-more e (l .left) (c .if3 .left) (c .before .if2 .left)),
+    )
 
 pub record-number-spec : {M : Type 1} → statement M
 record-number-spec =

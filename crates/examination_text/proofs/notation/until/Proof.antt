@@ -1,4 +1,5 @@
--- `examination_text::notation::until` meets its contract. The loop's invariant: no byte passed is the one looked for. The measure is what is left of the bytes.
+-- `examination_text::notation::until` meets its contract. The loop's invariant: no byte passed is the one looked for.
+-- The measure is what is left of the bytes.
 use mathlib.Core.Bool.{true}
 use mathlib.Core.Path.{_≡_, refl, subst}
 use Prim.Native.Nat.{_-_, _≤_}
@@ -11,7 +12,8 @@ use Rattle.examination_text.proofs.notation.until.Statement.{statement}
 use Rattle.examination_text.proofs.notation.until.Tie as tie
 
 abbrev Inv-loop : tie.InvT-loop
-Inv-loop byte bytes from i₀ i-end i = (from ≤ i) × (i ≤ length bytes) × (i-end ≡ length bytes) × (all (other byte) (take (i - from) (drop from bytes)) ≡ true)
+Inv-loop byte bytes from i₀ i-end i =
+    (from ≤ i) × (i ≤ length bytes) × (i-end ≡ length bytes) × (all (other byte) (take (i - from) (drop from bytes)) ≡ true)
 
 abbrev μ-loop : tie.MeasureT-loop
 μ-loop byte bytes from i₀ i-end i = length bytes - i

@@ -29,7 +29,9 @@ slice-aggregate-put-number c = search needs
 
 put-number-requires : tie.Need-put-number-requires
 unfolding ascii
-put-number-requires c κs = let s = c .before .before .before in room-number first (s .args .setting) (s .args .at) _ (s .fits .setting .fits) (omega arith)
+put-number-requires c κs =
+    let s = c .before .before .before in
+    room-number first (s .args .setting) (s .args .at) _ (s .fits .setting .fits) (omega arith)
 
 slice-aggregate-put-text : tie.Need-slice-aggregate-put-text
 slice-aggregate-put-text c = search needs
@@ -42,8 +44,10 @@ put-flag-names-requires : tie.Need-put-flag-names-requires
 unfolding ascii
 put-flag-names-requires c κs =
     let q = c .before .before .before in
-    let p = q .before .before .before .before .before in
-    (p .before .before .before .before .pre .0, omega (arith, short p, stored-length (p .put-number .ensures), q .put-text .ensures .place, stored-length (q .put-text .ensures)))
+    let p = q .before .before .before .before .before in (
+      p .before .before .before .before .pre .0,
+      omega (arith, short p, stored-length (p .put-number .ensures), q .put-text .ensures .place, stored-length (q .put-text .ensures)),
+    )
 
 same-length : tie.Need-same-length
 same-length c = search needs
@@ -55,7 +59,9 @@ returns c =
     let q = r .before .before .before .before in
     let p = q .before .before .before .before .before in
     let a = p .before .before .before .before .args in
-    stored-append {l = first ++ decimal (a .setting) ++ second} (stored-append {l = first ++ decimal (a .setting)} {m = second} (p .put-number .ensures) (q .put-text .ensures)) (r .put-flag-names .ensures)
+    stored-append {l = first ++ decimal (a .setting) ++ second}
+    (stored-append {l = first ++ decimal (a .setting)} {m = second} (p .put-number .ensures) (q .put-text .ensures))
+    (r .put-flag-names .ensures)
 
 pub put-difference-spec : {M : Type 1} → statement M
 put-difference-spec =

@@ -30,8 +30,11 @@ returns c =
     let i = q .before .before .before in
     let p = i .before .before .before in
     let a = p .before .before .before .args in
-    let none = subst (λ (k : ℕ). Stored (ascii " none") k (q .put-text .result) (p .put-flags .last .1 .1 .0) (q .put-text .last .1 .0)) (sym (i .if1 .taken)) (q .put-text .ensures) in
-    stored-eq (names-none (places (a .flags) (a .setting)) (omega (arith, p .put-flags .ensures .place, i .if1 .taken))) (stored-append (p .put-flags .ensures) none)
+    let none =
+    subst (λ (k : ℕ). Stored (ascii " none") k (q .put-text .result) (p .put-flags .last .1 .1 .0) (q .put-text .last .1 .0))
+    (sym (i .if1 .taken)) (q .put-text .ensures) in
+    stored-eq (names-none (places (a .flags) (a .setting)) (omega (arith, p .put-flags .ensures .place, i .if1 .taken)))
+    (stored-append (p .put-flags .ensures) none)
 
 same-length-2 : tie.Need-same-length-2
 same-length-2 c = search needs

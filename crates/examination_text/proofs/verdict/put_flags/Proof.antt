@@ -1,5 +1,5 @@
--- `examination_text::verdict::put_flags` meets its contract. The loop's invariant: the flags passed that are set are written, each in at most two bytes. The measure
--- is what is left of the flags.
+-- `examination_text::verdict::put_flags` meets its contract. The loop's invariant: the flags passed that are set are written, each in at most two
+-- bytes. The measure is what is left of the flags.
 use mathlib.Core.Path.{_≡_, sym, ap}
 use Prim.Native.Nat.{ℕ, _+_, _-_, _*_, _≤_}
 use native.Mathlib.Omega.{arith}
@@ -14,7 +14,8 @@ use Rattle.examination_text.proofs.verdict.put_flags.Statement.{stateme
 use Rattle.examination_text.proofs.verdict.put_flags.Tie as tie
 
 abbrev Inv-loop : tie.InvT-loop
-Inv-loop flags setting out₀ at next₀ flag₀ out next flag = (flag ≤ flags) × (next ≤ at + 2 * flag) × Stored (named (places flag setting)) at next out₀ out
+Inv-loop flags setting out₀ at next₀ flag₀ out next flag =
+    (flag ≤ flags) × (next ≤ at + 2 * flag) × Stored (named (places flag setting)) at next out₀ out
 
 abbrev μ-loop : tie.MeasureT-loop
 μ-loop flags setting out₀ at next₀ flag₀ out next flag = flags - flag

@@ -12,7 +12,8 @@ use Rattle.text.proofs.Decimal.{room-number, room-numbers}
 use Rattle.bits.proofs.Stored.{stored-eq}
 use Rattle.examination_text.specs.Notation.{recordTexts, recordOf}
 use Rattle.examination_text.specs.Verdict.{beyondLimit, aboveRaw, reason}
-use Rattle.examination_text.proofs.Reasons.{reason-mark, reason-payload, reason-operands, reason-records, reason-end, reason-differs, reason-costly}
+use Rattle.examination_text.proofs.Reasons.{reason-mark, reason-payload, reason-operands, reason-records}
+use Rattle.examination_text.proofs.Reasons.{reason-end, reason-differs, reason-costly}
 use Rattle.examination_text.proofs.verdict.put_reason.Statement.{statement}
 use Rattle.examination_text.proofs.verdict.put_reason.Tie as tie
 
@@ -37,14 +38,18 @@ costly = ascii "cost "
 abbrev above : List ℕ
 above = ascii " is above the raw cost "
 
--- the number that was written is that of the record
+-- where the call began, and that the number that was written is that of the record
 module _ (r : tie.After-record-number) where
+  abbrev start : tie.Start
+  start = r .before .before .before .before
+
   abbrev words : List ℕ
   words =
-      let a = r .before .before .before .before .args in
+      let a = start .args in
       reason (a .flags) (a .table .now) (recordTexts (a .line .now)) (a .refusal .number) (a .refusal .place)
 
-  spoken : (label : List ℕ) → (let a = r .before .before .before .before .args in words ≡ label ++ decimal (recordOf (recordTexts (a .line .now)) (a .refusal .place)))
+  spoken : (label : List ℕ)
+      → (let a = start .args in words ≡ label ++ decimal (recordOf (recordTexts (a .line .now)) (a .refusal .place)))
       → label ++ decimal (r .record-number .result) ≡ words
   spoken label e = ap (λ (j : ℕ). label ++ decimal j) (r .record-number .ensures) ∙ sym e
 
@@ -56,21 +61,27 @@ slice-aggregate-put-number c = search needs
 
 put-number-requires : tie.Need-put-number-requires
 unfolding ascii
-put-number-requires c κs = let r = c .before .before .before in room-number mark (r .record-number .result) _ _ (r .record-number .ok) (omega arith)
+put-number-requires c κs =
+    let r = c .before .before .before in
+    room-number mark (r .record-number .result) _ _ (r .record-number .ok) (omega arith)
 
 slice-aggregate-put-number-2 : tie.Need-slice-aggregate-put-number-2
 slice-aggregate-put-number-2 c = search needs
 
 put-number-requires-2 : tie.Need-put-number-requires-2
 unfolding ascii
-put-number-requires-2 c κs = let r = c .before .before .before in room-number payload (r .record-number .result) _ _ (r .record-number .ok) (omega arith)
+put-number-requires-2 c κs =
+    let r = c .before .before .before in
+    room-number payload (r .record-number .result) _ _ (r .record-number .ok) (omega arith)
 
 slice-aggregate-put-number-3 : tie.Need-slice-aggregate-put-number-3
 slice-aggregate-put-number-3 c = search needs
 
 put-number-requires-3 : tie.Need-put-number-requires-3
 unfolding ascii
-put-number-requires-3 c κs = let r = c .before .before .before in room-number operands (r .record-number .result) _ _ (r .record-number .ok) (omega arith)
+put-number-requires-3 c κs =
+    let r = c .before .before .before in
+    room-number operands (r .record-number .result) _ _ (r .record-number .ok) (omega arith)
 
 slice-aggregate-put-numbers : tie.Need-slice-aggregate-put-numbers
 slice-aggregate-put-numbers c = search needs
@@ -106,7 +117,7 @@ put-numbers-requires-2 : tie.Need-put-numbers-requires-2
 unfolding ascii
 put-numbers-requires-2 c κs =
     let w = c .before in
-    let s = w .before .before .before .before .before .before .before .before in
+    let s = start (w .before .before .before .before) in
     room-numbers costly (s .args .refusal .place) above (w .raw-cost .result) _ _ (search needs) (w .raw-cost .ok) (omega arith)
 
 same-length : tie.Need-same-length
@@ -178,7 +189,7 @@ returns-7 c =
     let p = c .before .before in
     let r = p .before .before in
     let m = r .before .before .before in
-    let a = m .before .before .before .before .before .args in
+    let a = start (m .before) .args in
     let k = m .match .rest in
     stored-eq (ap (λ (raw : ℕ). costly ++ decimal (a .refusal .place) ++ (above ++ decimal raw)) (r .raw-cost .ensures)
     ∙ sym (reason-costly _ _ _ _ _ (k .0 .0 .0 .0 .0 .1) (k .0 .0 .0 .0 .1) (k .0 .0 .0 .1) (k .0 .0 .1) (k .0 .1) (k .1))) (p .put-numbers2 .ensures)

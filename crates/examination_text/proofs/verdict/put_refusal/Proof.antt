@@ -47,8 +47,11 @@ unfolding ascii
 put-reason-requires c κs =
     let q = c .before .before .before in
     let p = q .before .before .before .before .before in
-    let s = start p in
-    (s .pre .0, s .pre .1, omega (arith, short p, stored-length (p .put-number .ensures), q .put-text .ensures .place, stored-length (q .put-text .ensures)))
+    let s = start p in (
+      s .pre .0,
+      s .pre .1,
+      omega (arith, short p, stored-length (p .put-number .ensures), q .put-text .ensures .place, stored-length (q .put-text .ensures)),
+    )
 
 same-length : tie.Need-same-length
 same-length c = search needs
@@ -60,7 +63,8 @@ returns c =
     let q = r .before .before .before .before in
     let p = q .before .before .before .before .before in
     let label = first ++ decimal (start p .args .refusal .number) in
-    stored-append {l = label ++ second} (stored-append {l = label} {m = second} (p .put-number .ensures) (q .put-text .ensures)) (r .put-reason .ensures)
+    stored-append {l = label ++ second}
+    (stored-append {l = label} {m = second} (p .put-number .ensures) (q .put-text .ensures)) (r .put-reason .ensures)
 
 pub put-refusal-spec : {M : Type 1} → statement M
 put-refusal-spec =

@@ -5,7 +5,7 @@ use Prim.Native.Nat.{ℕ}
 use native.Mathlib.Omega.{arith}
 use borrow.Author.Needs.{needs}
 use Rattle.rules.specs.Ascii.{ascii}
-use Rattle.examiner.specs.Answer.{examinationOf}
+use Rattle.examiner.specs.Answers.{examinationOf}
 use Rattle.examiner.specs.declared.Examination.{Examination}
 use Rattle.text.proofs.Decimal.{room-number}
 use Rattle.bits.proofs.Stored.{stored-eq}

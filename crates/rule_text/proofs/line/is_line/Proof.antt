@@ -1,4 +1,5 @@
--- `rule_text::line::is_line` meets its contract: no input, no newline at the end, and a newline with what stands before it, each by one law of Printed.
+-- `rule_text::line::is_line` meets its contract: no input, no newline at the end, and a newline with what stands before it,
+-- each by one law of Printed.
 use mathlib.Core.Path.{sym, _∙_}
 use Prim.Native.Nat.{_-_}
 use native.Mathlib.Omega.{arith}

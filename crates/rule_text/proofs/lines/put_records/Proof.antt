@@ -45,6 +45,10 @@ module _ (c : tie.After-answer Inv-loop μ-loop) where
   next : Next (walk .loop .inv) r
   next = left-next (walk .loop .inv) (c .before .before .before .loop-test .taken) r found
 
+-- where it had found the record, seen from where the gap before the record was put
+abbrev answered : tie.After-put-gap Inv-loop μ-loop → tie.After-answer Inv-loop μ-loop
+answered p = p .before .before .before
+
 -- where it found none, though bytes are left
 never : (c : tie.At-match-keys2 Inv-loop μ-loop) → ⊥
 never c =
@@ -69,19 +73,19 @@ put-gap-requires c κs = let a = c .before .before in left-gap (walk a .loop .in
 put-kind-requires : tie.Need-put-kind-requires Inv-loop μ-loop
 put-kind-requires c κs =
     let p = c .before .before .before in
-    let a = p .before .before .before in
+    let a = answered p in
     (read-index (found a) 10 (omega arith), left-kind (walk a .loop .inv) (next a) (p .put-gap .ensures) (start a .pre .2))
 
 loop-less : tie.Need-loop-less Inv-loop μ-loop
 loop-less c =
-    let a = c .before .before .before .before .before .before .before .before .before in
+    let a = answered (c .before .before .before .before .before .before) in
     omega (arith, found a .after, a .before .before .before .loop-test .taken)
 
 loop-again : tie.Need-loop-again Inv-loop μ-loop
 loop-again c =
     let q = c .before .before in
     let p = q .before .before .before .before in
-    let a = p .before .before .before in
+    let a = answered p in
     left-step (walk a .loop .inv) (next a) (p .put-gap .ensures) (q .put-kind .ensures)
 
 same-length-2 : tie.Need-same-length-2 Inv-loop μ-loop

@@ -1,5 +1,5 @@
--- The proof of the cycle of calls {put_decimal}. The measure is the number: its tens are less than a number of two or more digits. A number below ten is its
--- last digit, and another the digits of its tens and then that.
+-- The proof of the cycle of calls {put_decimal}. The measure is the number: its tens are less than a number of two or more digits. A number below ten
+-- is its last digit, and another the digits of its tens and then that.
 use mathlib.Core.List.{List, [], _∷_, _++_}
 use mathlib.Core.Path.{_≡_, sym}
 use Prim.Native.Nat.{ℕ, _+_, _/_, _%_, _<_}

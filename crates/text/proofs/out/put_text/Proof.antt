@@ -1,4 +1,5 @@
--- `text::out::put_text` meets its contract. The loop's invariant: the bytes passed are written from the place on. The measure is what is left of the text.
+-- `text::out::put_text` meets its contract. The loop's invariant: the bytes passed are written from the place on.
+-- The measure is what is left of the text.
 use mathlib.Core.List.{List}
 use mathlib.Core.Path.{_≡_, refl, ap, _∙_}
 use Prim.Native.Nat.{ℕ, _+_, _-_, _≤_}
@@ -39,8 +40,12 @@ loop-less c = omega arith
 loop-again : tie.Need-loop-again Inv-loop μ-loop
 loop-again c =
     let l = c .before .before .loop in
-    let a = c .before .before .before .args in
-    (omega arith, refl, ap (λ (o : List ℕ). set o (a .at + l .i) (getD (a .text .now) (l .i) 0)) (l .inv .2) ∙ stores-more (a .out .now) (a .text .now) (a .at) (l .i) 0 (omega arith))
+    let a = c .before .before .before .args in (
+      omega arith,
+      refl,
+      ap (λ (o : List ℕ). set o (a .at + l .i) (getD (a .text .now) (l .i) 0)) (l .inv .2)
+          ∙ stores-more (a .out .now) (a .text .now) (a .at) (l .i) 0 (omega arith),
+    )
 
 add-result : tie.Need-add-result Inv-loop μ-loop
 add-result c = omega arith
@@ -52,7 +57,11 @@ returns : tie.Need-returns Inv-loop μ-loop
 returns c =
     let l = c .before .loop in
     let a = c .before .before .args in
-    record { place = refl; within = omega arith; entries = l .inv .2 ∙ ap (sets (a .out .now) (a .at)) (take-all (l .i) (a .text .now) (omega arith)) }
+    record {
+      place = refl;
+      within = omega arith;
+      entries = l .inv .2 ∙ ap (sets (a .out .now) (a .at)) (take-all (l .i) (a .text .now) (omega arith));
+    }
 
 pub put-text-spec : {M : Type 1} → statement M
 put-text-spec =

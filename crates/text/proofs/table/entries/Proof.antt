@@ -1,5 +1,5 @@
--- `text::table::entries` meets its contract. The loop's invariant: the entries of the digits passed stand at the front of the table. The measure is what is left
--- of the digits.
+-- `text::table::entries` meets its contract. The loop's invariant: the entries of the digits passed stand at the front of the table.
+-- The measure is what is left of the digits.
 use mathlib.Core.List.{List}
 use mathlib.Core.Path.{_≡_, refl, ap, _∙_}
 use Prim.Native.Nat.{ℕ, _-_, _≤_}
@@ -39,7 +39,8 @@ mul-table c = omega arith
 slice-write-table : tie.Need-slice-write-table Inv-loop μ-loop
 slice-write-table c =
     let l = c .before .before .loop in
-    omega (arith, ap length (l .inv .2), length-sets (c .before .before .before .args .table .now) 0 (take (l .i) (values (c .before .before .before .args .digits .now))))
+    let a = c .before .before .before .args in
+    omega (arith, ap length (l .inv .2), length-sets (a .table .now) 0 (take (l .i) (values (a .digits .now))))
 
 add-i : tie.Need-add-i Inv-loop μ-loop
 add-i c = omega arith
@@ -50,8 +51,12 @@ loop-less c = omega arith
 loop-again : tie.Need-loop-again Inv-loop μ-loop
 loop-again c =
     let l = c .before .before .loop in
-    let a = c .before .before .before .args in
-    (omega arith, refl, ap (λ (t : List ℕ). set t (l .i) (getD (a .digits .now) (l .i) 0 - 48)) (l .inv .2) ∙ entries-more (a .table .now) (a .digits .now) (l .i) (omega arith))
+    let a = c .before .before .before .args in (
+      omega arith,
+      refl,
+      ap (λ (t : List ℕ). set t (l .i) (getD (a .digits .now) (l .i) 0 - 48)) (l .inv .2)
+          ∙ entries-more (a .table .now) (a .digits .now) (l .i) (omega arith),
+    )
 
 same-length : tie.Need-same-length Inv-loop μ-loop
 same-length c = ap length (c .before .loop .inv .2) ∙ simp length-sets

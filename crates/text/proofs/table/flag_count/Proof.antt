@@ -37,7 +37,8 @@ returns-7 c = sym (ap flagsOf (c .match .keys7))
 returns-8 : tie.Need-returns-8
 returns-8 c =
     let r = c .match .rest in
-    sym (flags-none (c .before .args .digits) (r .0 .0 .0 .0 .0 .0 .1) (r .0 .0 .0 .0 .0 .1) (r .0 .0 .0 .0 .1) (r .0 .0 .0 .1) (r .0 .0 .1) (r .0 .1) (r .1))
+    sym (flags-none (c .before .args .digits) (r .0 .0 .0 .0 .0 .0 .1) (r .0 .0 .0 .0 .0 .1) (r .0 .0 .0 .0 .1)
+    (r .0 .0 .0 .1) (r .0 .0 .1) (r .0 .1) (r .1))
 
 pub flag-count-spec : {M : Type 1} → statement M
 flag-count-spec =

@@ -1,0 +1,52 @@
+//! The library's calls over slices: the functions of include/guide_rules.h, each with an answer block of its own. A call gives the refusal's number, 0
+//! for none. It rests on the static library `guide_rules`.
+
+#[link(name = "guide_rules", kind = "static")]
+extern "C" {
+    fn rule_transform(flags: u64, table: *const u64, entries: u64, out: *mut u64, room: u64, answer: *mut u64, answers: u64) -> u64;
+    fn rule_way_back(flags: u64, words: *const u64, count: u64, out: *mut u64, room: u64, answer: *mut u64, answers: u64) -> u64;
+    fn rule_listing(flags: u64, words: *const u64, count: u64, out: *mut u32, room: u64, answer: *mut u64, answers: u64) -> u64;
+    fn rule_raw_cost(flags: u64, words: *const u64, count: u64, answer: *mut u64, answers: u64) -> u64;
+    fn rule_compile(flags: u64, table: *const u64, entries: u64, out: *mut u8, room: u64, answer: *mut u64, answers: u64) -> u64;
+    fn rule_evaluate(flags: u64, bytes: *const u8, length: u64, setting: u64, answer: *mut u64, answers: u64) -> u64;
+    fn rule_cost(flags: u64, bytes: *const u8, length: u64, answer: *mut u64, answers: u64) -> u64;
+    fn rule_examine(flags: u64, table: *const u64, entries: u64, bytes: *const u8, length: u64, answer: *mut u64, answers: u64) -> u64;
+}
+
+/// Calls with an answer block that has room for every answer.
+fn answered(call: impl FnOnce(*mut u64, u64) -> u64) -> u64 {
+    let mut answer = [0u64; 4];
+    call(answer.as_mut_ptr(), 4)
+}
+
+pub fn transform(flags: usize, table: &[u64], out: &mut [u64]) -> u64 {
+    answered(|a, k| unsafe { rule_transform(flags as u64, table.as_ptr(), table.len() as u64, out.as_mut_ptr(), out.len() as u64, a, k) })
+}
+
+pub fn way_back(flags: usize, words: &[u64], out: &mut [u64]) -> u64 {
+    answered(|a, k| unsafe { rule_way_back(flags as u64, words.as_ptr(), words.len() as u64, out.as_mut_ptr(), out.len() as u64, a, k) })
+}
+
+pub fn listing(flags: usize, words: &[u64], out: &mut [u32]) -> u64 {
+    answered(|a, k| unsafe { rule_listing(flags as u64, words.as_ptr(), words.len() as u64, out.as_mut_ptr(), out.len() as u64, a, k) })
+}
+
+pub fn raw_cost(flags: usize, words: &[u64]) -> u64 {
+    answered(|a, k| unsafe { rule_raw_cost(flags as u64, words.as_ptr(), words.len() as u64, a, k) })
+}
+
+pub fn compile(flags: usize, table: &[u64], out: &mut [u8]) -> u64 {
+    answered(|a, k| unsafe { rule_compile(flags as u64, table.as_ptr(), table.len() as u64, out.as_mut_ptr(), out.len() as u64, a, k) })
+}
+
+pub fn evaluate(flags: usize, bytes: &[u8], setting: usize) -> u64 {
+    answered(|a, k| unsafe { rule_evaluate(flags as u64, bytes.as_ptr(), bytes.len() as u64, setting as u64, a, k) })
+}
+
+pub fn cost(flags: usize, bytes: &[u8]) -> u64 {
+    answered(|a, k| unsafe { rule_cost(flags as u64, bytes.as_ptr(), bytes.len() as u64, a, k) })
+}
+
+pub fn examine(flags: usize, table: &[u64], bytes: &[u8]) -> u64 {
+    answered(|a, k| unsafe { rule_examine(flags as u64, table.as_ptr(), table.len() as u64, bytes.as_ptr(), bytes.len() as u64, a, k) })
+}

@@ -1,0 +1,66 @@
+-- The calls for C on paper. Each returns the refusal's number (rules, Console) and stores its answer, as 64-bit numbers, at the front of a lent
+-- block.
+--   stored block l     == the block after the numbers l: "As many of them are stored as the block has room for, and nothing else of it changes"
+--   answer f o         == the numbers of an outcome: f says those of a result; "after a refusal the place alone"
+--   alone x            == a result that is one number
+--   entries l          == of the transform and the way back: how many entries were written
+--   listing l          == of the listing: the constant, 0 or 1, and the count of monomials
+--   compilation c      == of the compiler: the counts of bytes and records, the cost and the raw cost
+--   reading r          == of the reader: the kind's number, the payload and the next place, or 0 alone at the end
+--   costs c            == of costing: cost, size and depth
+--   cheaper n s t      == what `rule_cheaper` returns: 0 where n or either is refused, 1 for the first, 2 for the second
+use mathlib.Core.List.{List, [], _∷_}
+use mathlib.Core.Option.{Option, none, some}
+use Prim.Native.Nat.{ℕ}
+use lib.ListN.{length, take}
+use Rattle.bits.specs.Bit.{digit}
+use Rattle.rules.specs.Calls.{Listing, Compilation, Costs, parse, cheaperOf}
+use Rattle.rules.specs.Outcome.{Outcome, gives, refuses, written}
+use Rattle.rules.specs.Record.{Kind, Constant, Flag, And, Or, Xor, Not, Found}
+
+unfoldable pub stored : List ℕ → List ℕ → List ℕ
+stored block l = written block (take (length block) l)
+
+abbrev pub answer : {A : Type 0} → (A → List ℕ) → Outcome A → List ℕ
+answer f (gives a) = f a
+answer f (refuses k p) = p ∷ []
+
+abbrev pub alone : ℕ → List ℕ
+alone x = x ∷ []
+
+abbrev pub entries : List ℕ → List ℕ
+entries l = length l ∷ []
+
+abbrev pub listing : Listing → List ℕ
+listing l = digit (l .constant) ∷ length (l .masks) ∷ []
+
+abbrev pub compilation : Compilation → List ℕ
+compilation c = length (c .bytes) ∷ c .records ∷ c .cost ∷ c .raw ∷ []
+
+-- "kind (0 the end, 1 CO, 2 VA, 3 AN, 4 OR, 5 XO, 6 NO; at the end nothing more)"
+abbrev pub kindNumber : Kind → ℕ
+kindNumber (Constant b) = 1
+kindNumber (Flag i) = 2
+kindNumber And = 3
+kindNumber Or = 4
+kindNumber Xor = 5
+kindNumber Not = 6
+
+-- "payload (0 where there is none)"
+abbrev pub payload : Kind → ℕ
+payload (Constant b) = digit b
+payload (Flag i) = i
+payload And = 0
+payload Or = 0
+payload Xor = 0
+payload Not = 0
+
+abbrev pub reading : Option Found → List ℕ
+reading none = 0 ∷ []
+reading (some r) = kindNumber (r .kind) ∷ payload (r .kind) ∷ r .next ∷ []
+
+abbrev pub costs : Costs → List ℕ
+costs c = c .cost ∷ c .size ∷ c .depth ∷ []
+
+unfoldable pub cheaper : ℕ → List ℕ → List ℕ → ℕ
+cheaper n s t = cheaperOf 0 1 2 (parse n s) (parse n t)

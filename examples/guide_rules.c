@@ -1,0 +1,154 @@
+/* It lists a rule's monomials, compiles the rule, reads its records, has it examined and asks it about stars. The rule: a star may guide if at least
+   two of three flags are set. It rests on guide_rules.h.
+
+   guide_rules.expected is worked by hand from document 01, not written by this program. Its marked row 00010111 gives word, records and costs; its
+   definitions give the rest: word 104 has the bits 3, 5 and 6; five records of three bytes and four of two are 23 bytes; VA1 XO AN XO is a longest
+   way to the root; the raw form has 11 records; and the row 01111000 first differs from this one at setting 1. */
+#include "guide_rules.h"
+
+#include <inttypes.h>
+#include <stdio.h>
+
+enum { FLAGS = 3, SETTINGS = 8 };
+
+static const uint64_t table[SETTINGS] = {0, 0, 0, 1, 0, 1, 1, 1};
+
+/* The raw form: flags 0 and 1, XOR flags 0 and 2, XOR flags 1 and 2. */
+static const uint8_t raw[] = {'V', 'A', 0, 'V', 'A', 1, 'A', 'N', 'V', 'A', 0, 'V', 'A', 2, 'A', 'N',
+                              'V', 'A', 1, 'V', 'A', 2, 'A', 'N', 'X', 'O', 'X', 'O'};
+/* The rule 01111000. */
+static const uint8_t other[] = {'V', 'A', 0, 'V', 'A', 1, 'O', 'R', 'V', 'A', 2, 'X', 'O'};
+static const uint8_t cut[] = {'V', 'A', 0, 'V', 'A', 1, 'O'};
+
+/* Every call by its documented type: a header that says otherwise does not compile. */
+static const struct {
+    uint64_t (*transform)(uint64_t, const uint64_t *, uint64_t, uint64_t *, uint64_t, uint64_t *, uint64_t);
+    uint64_t (*way_back)(uint64_t, const uint64_t *, uint64_t, uint64_t *, uint64_t, uint64_t *, uint64_t);
+    uint64_t (*listing)(uint64_t, const uint64_t *, uint64_t, uint32_t *, uint64_t, uint64_t *, uint64_t);
+    uint64_t (*raw_cost)(uint64_t, const uint64_t *, uint64_t, uint64_t *, uint64_t);
+    uint64_t (*compile)(uint64_t, const uint64_t *, uint64_t, uint8_t *, uint64_t, uint64_t *, uint64_t);
+    uint64_t (*read)(uint64_t, const uint8_t *, uint64_t, uint64_t, uint64_t *, uint64_t);
+    uint64_t (*evaluate)(uint64_t, const uint8_t *, uint64_t, uint64_t, uint64_t *, uint64_t);
+    uint64_t (*cost)(uint64_t, const uint8_t *, uint64_t, uint64_t *, uint64_t);
+    uint64_t (*cheaper)(uint64_t, const uint8_t *, uint64_t, const uint8_t *, uint64_t);
+    uint64_t (*examine)(uint64_t, const uint64_t *, uint64_t, const uint8_t *, uint64_t, uint64_t *, uint64_t);
+} documented = {
+    rule_transform, rule_way_back, rule_listing, rule_raw_cost, rule_compile, rule_read, rule_evaluate, rule_cost, rule_cheaper, rule_examine,
+};
+
+/* Where the number is a refusal, says so. */
+static int refused(uint64_t number, const uint64_t *answer)
+{
+    if (number != GUIDE_RULES_NO_REFUSAL)
+        printf("refused by %" PRIu64 " at %" PRIu64 "\n", number, answer[0]);
+    return number != GUIDE_RULES_NO_REFUSAL;
+}
+
+static void coefficients_listed(void)
+{
+    uint64_t word[1], back[SETTINGS], answer[GUIDE_RULES_ANSWER_LIMIT];
+    uint32_t masks[SETTINGS - 1];
+
+    printf("coefficients: ");
+    if (refused(rule_transform(FLAGS, table, SETTINGS, word, 1, answer, GUIDE_RULES_ANSWER_LIMIT), answer))
+        return;
+    printf("%" PRIu64 "\n", word[0]);
+
+    printf("way back: ");
+    if (refused(rule_way_back(FLAGS, word, 1, back, SETTINGS, answer, GUIDE_RULES_ANSWER_LIMIT), answer))
+        return;
+    for (uint64_t s = 0; s < answer[0]; s++)
+        printf("%" PRIu64, back[s]);
+    printf("\n");
+
+    printf("monomials:");
+    if (refused(rule_listing(FLAGS, word, 1, masks, SETTINGS - 1, answer, GUIDE_RULES_ANSWER_LIMIT), answer))
+        return;
+    for (uint64_t i = 0; i < answer[1]; i++)
+        printf(" %" PRIu32, masks[i]);
+    printf(", constant %" PRIu64 "\n", answer[0]);
+
+    printf("raw cost: ");
+    if (!refused(rule_raw_cost(FLAGS, word, 1, answer, GUIDE_RULES_ANSWER_LIMIT), answer))
+        printf("%" PRIu64 "\n", answer[0]);
+}
+
+/* The records in document 01's notation. */
+static void records_read(const uint8_t *bytes, uint64_t length)
+{
+    static const char *const marks[] = {"", "CO", "VA", "AN", "OR", "XO", "NO"};
+    uint64_t answer[GUIDE_RULES_ANSWER_LIMIT];
+
+    printf("records: ");
+    for (uint64_t place = 0;; place = answer[2]) {
+        if (refused(rule_read(FLAGS, bytes, length, place, answer, GUIDE_RULES_ANSWER_LIMIT), answer))
+            return;
+        if (answer[0] == GUIDE_RULES_KIND_END)
+            break;
+        printf("%s%s", place == 0 ? "" : " ", marks[answer[0]]);
+        if (answer[0] == GUIDE_RULES_KIND_CO || answer[0] == GUIDE_RULES_KIND_VA)
+            printf("%" PRIu64, answer[1]);
+    }
+    printf("\n");
+}
+
+/* The examiner's verdict, and whether the rule may be loaded. */
+static int examined(const char *name, const uint8_t *bytes, uint64_t length)
+{
+    uint64_t answer[GUIDE_RULES_ANSWER_LIMIT];
+
+    printf("%s: ", name);
+    if (refused(rule_examine(FLAGS, table, SETTINGS, bytes, length, answer, GUIDE_RULES_ANSWER_LIMIT), answer))
+        return 0;
+    printf("accepted, cost %" PRIu64 "\n", answer[0]);
+    return 1;
+}
+
+static void costs_told(const uint8_t *bytes, uint64_t length)
+{
+    uint64_t answer[GUIDE_RULES_ANSWER_LIMIT];
+
+    printf("costs: ");
+    if (!refused(rule_cost(FLAGS, bytes, length, answer, GUIDE_RULES_ANSWER_LIMIT), answer))
+        printf("cost %" PRIu64 ", size %" PRIu64 ", depth %" PRIu64 "\n", answer[0], answer[1], answer[2]);
+}
+
+static void stars_asked(const uint8_t *bytes, uint64_t length)
+{
+    uint64_t answer[GUIDE_RULES_ANSWER_LIMIT];
+
+    for (uint64_t star = 0; star <= SETTINGS; star++) {
+        printf("star with setting %" PRIu64 ": ", star);
+        if (!refused(rule_evaluate(FLAGS, bytes, length, star, answer, GUIDE_RULES_ANSWER_LIMIT), answer))
+            printf("%s\n", answer[0] ? "may guide" : "may not guide");
+    }
+}
+
+int main(void)
+{
+    static const char *const cheaper[] = {"refused", "compiled", "raw"};
+    uint8_t compiled[GUIDE_RULES_BYTE_LIMIT];
+    uint64_t answer[GUIDE_RULES_ANSWER_LIMIT], length;
+    (void)documented;
+
+    coefficients_listed();
+
+    printf("compiled into 22 bytes: ");
+    refused(rule_compile(FLAGS, table, SETTINGS, compiled, 22, answer, GUIDE_RULES_ANSWER_LIMIT), answer);
+    printf("compiled: ");
+    if (refused(rule_compile(FLAGS, table, SETTINGS, compiled, sizeof compiled, answer, GUIDE_RULES_ANSWER_LIMIT), answer))
+        return 1;
+    length = answer[0];
+    printf("bytes %" PRIu64 ", records %" PRIu64 ", cost %" PRIu64 ", raw cost %" PRIu64 "\n", length, answer[1], answer[2], answer[3]);
+
+    records_read(compiled, length);
+    costs_told(compiled, length);
+    printf("cheaper of compiled and raw: %s\n", cheaper[rule_cheaper(FLAGS, compiled, length, raw, sizeof raw)]);
+    printf("cheaper of compiled and cut: %s\n", cheaper[rule_cheaper(FLAGS, compiled, length, cut, sizeof cut)]);
+    if (examined("compiled", compiled, length))
+        stars_asked(compiled, length);
+    examined("raw", raw, sizeof raw);
+    examined("other", other, sizeof other);
+    examined("cut", cut, sizeof cut);
+    return 0;
+}

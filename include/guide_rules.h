@@ -1,0 +1,162 @@
+/* Guide-star rules: every call of the library.
+
+   What the calls speak of
+
+   flags         how many flags there are; n below
+   setting       a number below 2^n; its bit i is flag i
+   table         64-bit entries; bit 0 of entry s is the rule's bit at setting s, other bits of an entry and entries from 2^n on are ignored; it is
+                 complete if it has at least 2^n entries
+   coefficients  64-bit words; coefficient m is bit m mod 64 of word m div 64; 2^n / 64 words, rounded up, are needed, and words after these are
+                 ignored. Coefficient m is the XOR of the table's bits at all settings whose set bits lie in m
+   monomial      a nonzero mask of flags whose coefficient is 1; coefficient 0 is the constant
+   expression    bytes: postfix records, each with a two-byte ASCII mark: CO and one byte, 0 or 1; VA and one byte, a flag's index below n; AN, OR,
+                 XO, which take two operands, the first first; NO, which takes one. It is well formed if it has 1 to 385 records, no operator lacks
+                 operands, and one operand is left at the end
+   value         of an expression at a setting, 0 or 1: of CO its byte, of VA the setting's bit at its index, of AN, OR and XO the AND, OR and XOR of
+                 both operands' values, of NO the other bit than its operand's
+   cost          of a leaf 1; of NO 1 more than its operand; of AN, OR and XO 1 more than both operands, and 1 less than that for an OR whose first
+                 operand is an OR
+   size, depth   the size is the number of records; the depth of a leaf is 1, of an operator 1 more than its deepest operand's
+   raw form      the XOR of constant and monomials, each monomial the AND of its flags. Its cost, the raw cost, is 1 with no term, and otherwise the
+                 sum of 2k - 1 for each monomial of k flags, 1 for a constant 1, and one less than the number of terms
+
+   How a call answers
+
+   Each call but rule_cheaper returns the refusal's number, 0 for none, and stores its answer at the front of the lent block `answer`, which has room
+   for `answers` numbers: the call's results in the order told with it, or after a refusal the place alone. As many of them are stored as there is
+   room for, and nothing else of the block changes; no call refuses for its sake. No call has more than GUIDE_RULES_ANSWER_LIMIT results.
+
+   Checks run down this table, each call making those told with it:
+
+     number   condition                                                                     place
+      1       more than 16 flags (transform, way back, listing), more than 6 (all others)   0
+      2       a table of fewer than 2^n entries                                             0
+      3       fewer words of coefficients than needed                                       0
+      4       a coefficient of 1 at 2^n or above in the needed words                        0
+     11       a setting of 2^n or more                                                      0
+      9       a 386th record begins                                                         its first byte
+      6       one byte left, or an unknown mark                                             the record's first byte
+      7       a payload that is absent, a constant above 1, an index of n or more           the record's first byte
+      8       too few operands                                                              the record's first byte
+     10       no bytes, or more than one operand left                                       the length
+     12       the value differs from the table's bit                                        the smallest such setting
+     13       the cost is above the cost of the table's raw form                            the cost
+      5       an output shorter than the result                                             the length needed, in the output's own entries
+
+   9, 6, 7 and 8 run record by record, before 10.
+
+   Lent memory
+
+   An array is lent as a pointer and the count of its own entries: table entries, words and answers 64 bits wide, masks of a listing 32, bytes 8.
+   Nothing is kept after the call. The caller sees to this:
+   - No pointer is NULL, also where its count is 0, and behind it are as many entries as the count says.
+   - `out` and `answer` overlap neither each other nor an input. Inputs may overlap.
+   Then, for all numbers and all contents of the arrays, the call returns and answers as told here, and:
+   - Nothing is written through a pointer to const.
+   - After a refusal `out` is as it was. Otherwise the result stands at its front, and what is past the result is as it was. */
+#ifndef GUIDE_STAR_GUIDE_RULES_H
+#define GUIDE_STAR_GUIDE_RULES_H
+
+#include <stdint.h>
+
+#ifdef __cplusplus
+extern "C" {
+#endif
+
+enum guide_rules_limit {
+    GUIDE_RULES_FLAG_LIMIT = 6,       /* flags, of the seven other calls */
+    GUIDE_RULES_FORM_FLAG_LIMIT = 16, /* flags, of rule_transform, rule_way_back and rule_listing */
+    GUIDE_RULES_RECORD_LIMIT = 385,   /* records of a well-formed expression */
+    GUIDE_RULES_BYTE_LIMIT = 963,     /* bytes of a compiled expression */
+    GUIDE_RULES_ANSWER_LIMIT = 4      /* results of a call */
+};
+
+enum guide_rules_refusal {
+    GUIDE_RULES_NO_REFUSAL = 0,
+    GUIDE_RULES_TOO_MANY_FLAGS = 1,
+    GUIDE_RULES_SHORT_TABLE = 2,
+    GUIDE_RULES_SHORT_COEFFICIENTS = 3,
+    GUIDE_RULES_STRAY_COEFFICIENT = 4,
+    GUIDE_RULES_SHORT_OUTPUT = 5,
+    GUIDE_RULES_BAD_MARK = 6,
+    GUIDE_RULES_BAD_PAYLOAD = 7,
+    GUIDE_RULES_FEW_OPERANDS = 8,
+    GUIDE_RULES_MANY_RECORDS = 9,
+    GUIDE_RULES_BAD_END = 10,
+    GUIDE_RULES_BAD_SETTING = 11,
+    GUIDE_RULES_DIFFERS = 12,
+    GUIDE_RULES_TOO_COSTLY = 13
+};
+
+/* What rule_read finds. */
+enum guide_rules_kind {
+    GUIDE_RULES_KIND_END = 0,
+    GUIDE_RULES_KIND_CO = 1,
+    GUIDE_RULES_KIND_VA = 2,
+    GUIDE_RULES_KIND_AN = 3,
+    GUIDE_RULES_KIND_OR = 4,
+    GUIDE_RULES_KIND_XO = 5,
+    GUIDE_RULES_KIND_NO = 6
+};
+
+/* What rule_cheaper returns. */
+enum guide_rules_cheaper {
+    GUIDE_RULES_CHEAPER_NONE = 0,
+    GUIDE_RULES_CHEAPER_FIRST = 1,
+    GUIDE_RULES_CHEAPER_SECOND = 2
+};
+
+/* The coefficients of a table, at the front of `out`: 2^n / 64 words, rounded up, in which bits at 2^n and above are 0.
+   Refuses by 1 (16 flags), 2, 5. Result: words written. */
+uint64_t rule_transform(uint64_t flags, const uint64_t *table, uint64_t entries, uint64_t *out, uint64_t out_entries, uint64_t *answer,
+                        uint64_t answers);
+
+/* The table of coefficients, at the front of `out`: 2^n entries, each 0 or 1; entry s is the XOR of the coefficients of all masks whose set bits lie
+   in s. It undoes rule_transform.
+   Refuses by 1 (16 flags), 3, 4, 5. Result: entries written. */
+uint64_t rule_way_back(uint64_t flags, const uint64_t *coefficients, uint64_t words, uint64_t *out, uint64_t out_entries, uint64_t *answer,
+                       uint64_t answers);
+
+/* The monomials, each one time, at the front of `out`: by count of ones, then by mask. The constant is not among them; 2^n - 1 entries suffice.
+   Refuses by 1 (16 flags), 3, 4, 5. Results: the constant, 0 or 1; the number of monomials. */
+uint64_t rule_listing(uint64_t flags, const uint64_t *coefficients, uint64_t words, uint32_t *out, uint64_t out_entries, uint64_t *answer,
+                      uint64_t answers);
+
+/* The cost of the raw form.
+   Refuses by 1 (6 flags), 3, 4. Result: the cost. */
+uint64_t rule_raw_cost(uint64_t flags, const uint64_t *coefficients, uint64_t words, uint64_t *answer, uint64_t answers);
+
+/* The compiler: the table's expression by document 01's cleanup, at the front of `out`. rule_examine accepts it for this table, with this cost.
+   GUIDE_RULES_BYTE_LIMIT bytes suffice.
+   Refuses by 1 (6 flags), 2, 5. Results: bytes written; records; cost; raw cost. */
+uint64_t rule_compile(uint64_t flags, const uint64_t *table, uint64_t entries, uint8_t *out, uint64_t out_bytes, uint64_t *answer,
+                      uint64_t answers);
+
+/* The record that starts at a place, or the end where no byte is left there, as at any place from the length on. The next place is the byte after the
+   record; a walk over all records starts at 0.
+   Refuses by 1 (6 flags), 6, 7. Results: the kind, and nothing more at the end; the payload, 0 where there is none; the next place. */
+uint64_t rule_read(uint64_t flags, const uint8_t *bytes, uint64_t length, uint64_t place, uint64_t *answer, uint64_t answers);
+
+/* The value at one setting.
+   Refuses by 1 (6 flags), 11, then 9, 6, 7, 8 record by record, then 10. Result: the value, 0 or 1. */
+uint64_t rule_evaluate(uint64_t flags, const uint8_t *bytes, uint64_t length, uint64_t setting, uint64_t *answer, uint64_t answers);
+
+/* The costs of an expression.
+   Refuses by 1 (6 flags), then 9, 6, 7, 8 record by record, then 10. Results: cost; size; depth. */
+uint64_t rule_cost(uint64_t flags, const uint8_t *bytes, uint64_t length, uint64_t *answer, uint64_t answers);
+
+/* The cheaper of two expressions. Returns 0 where rule_cost refuses n or either expression; else 2 where the second has the smaller size, or the same
+   size and the smaller depth; else 1. */
+uint64_t rule_cheaper(uint64_t flags, const uint8_t *first, uint64_t first_length, const uint8_t *second, uint64_t second_length);
+
+/* The examiner: returns 0 exactly where n is at most 6, the table is complete, and the expression is well formed, has the table's bit at every
+   setting and costs no more than the table's raw form.
+   Refuses by 1 (6 flags), 2, then 9, 6, 7, 8 record by record, then 10, 12, 13. Result: the cost. */
+uint64_t rule_examine(uint64_t flags, const uint64_t *table, uint64_t entries, const uint8_t *bytes, uint64_t length, uint64_t *answer,
+                      uint64_t answers);
+
+#ifdef __cplusplus
+}
+#endif
+
+#endif

@@ -1,0 +1,310 @@
+"""Guide-star rules from Python: every call of include/guide_rules.h.
+
+    import guide_rules
+    rule = guide_rules.compile(3, "00010111")
+    guide_rules.show(rule.expression)                        # 'VA0 VA1 VA2 XO AN VA1 VA2 AN XO'
+    guide_rules.examine(3, "00010111", rule.expression)      # 9, its cost
+    guide_rules.evaluate(3, rule.expression, 0b101)          # 1: flags 0 and 2 are set
+
+A table is a string of digits 0 and 1, digit i for setting i, or a sequence of ints, of which bit 0 counts. Coefficients are a
+sequence of 64-bit words, an expression is bytes or anything bytes-like. What a call refuses it raises as Refusal; a number that
+does not fit 64 bits is a ValueError.
+
+The shared object is the file that the environment variable GUIDE_RULES_LIBRARY names, and otherwise
+target/python/libguide_rules.so, which `make python` builds. It is loaded by the first call.
+"""
+
+import ctypes
+import functools
+import operator
+import os
+import re
+from pathlib import Path
+from typing import List, NamedTuple, Optional, Sequence, TypeVar, Union
+
+__all__ = [
+    "FLAG_LIMIT", "FORM_FLAG_LIMIT", "RECORD_LIMIT", "BYTE_LIMIT",
+    "Refusal", "Listing", "Compilation", "Record", "Costs",
+    "transform", "way_back", "listing", "raw_cost", "compile", "read", "records", "evaluate", "cost", "cheaper", "examine",
+    "show", "parse",
+]
+
+FLAG_LIMIT = 6  # flags, of the other calls
+FORM_FLAG_LIMIT = 16  # flags, of transform, way_back and listing
+RECORD_LIMIT = 385  # records of a well-formed expression
+BYTE_LIMIT = 963  # bytes of a compiled expression
+
+Table = Union[str, Sequence[int]]
+Expression = Union[bytes, bytearray, memoryview]
+AnyExpression = TypeVar("AnyExpression", bound=Expression)
+
+# document 01's refusals: the condition, and what the place is where it is not always 0
+_ROWS = {
+    1: ("more than 16 flags (transform, way back, listing) or more than 6 (all others)", None),
+    2: ("the table has fewer than 2^flags entries", None),
+    3: ("fewer words of coefficients than needed", None),
+    4: ("a coefficient is 1 at 2^flags or above in the needed words", None),
+    5: ("the output is shorter than the result", "the length needed"),
+    6: ("one byte left, or an unknown mark", "the record's first byte"),
+    7: ("the payload is absent, a constant above 1, or a flag index that is not below flags", "the record's first byte"),
+    8: ("too few operands", "the record's first byte"),
+    9: ("a 386th record begins", "its first byte"),
+    10: ("no bytes, or more than one operand left at the end", "the length"),
+    11: ("the setting is 2^flags or more", None),
+    12: ("differs from the table", "the smallest such setting"),
+    13: ("the cost is above the raw cost", "the cost"),
+}
+
+
+class Refusal(Exception):
+    """A call refused: by which number of document 01's table, at which place, and the row's words."""
+
+    def __init__(self, number: int, place: int) -> None:
+        super().__init__(number, place)
+        self.number = number
+        self.place = place
+        self.words = _ROWS[number][0]
+
+    def __str__(self) -> str:
+        meaning = _ROWS[self.number][1]
+        return f"refused by {self.number}: {self.words}" + (f"; place {self.place}, {meaning}" if meaning else "")
+
+
+class Listing(NamedTuple):
+    """The constant, 0 or 1, and the monomials as masks, by count of ones, then by mask."""
+
+    constant: int
+    monomials: List[int]
+
+
+class Compilation(NamedTuple):
+    """The expression that the compiler writes, its count of records, its cost, and the raw cost."""
+
+    expression: bytes
+    records: int
+    cost: int
+    raw_cost: int
+
+
+class Record(NamedTuple):
+    """A record: its kind, which is its mark; its payload, None where there is none; and the place after it."""
+
+    kind: str
+    payload: Optional[int]
+    next: int
+
+
+class Costs(NamedTuple):
+    """An expression's cost, size and depth."""
+
+    cost: int
+    size: int
+    depth: int
+
+
+_MARKS = ("", "CO", "VA", "AN", "OR", "XO", "NO")
+_WITH_PAYLOAD = ("CO", "VA")
+_ANSWERS = 4
+
+_number = ctypes.c_uint64
+_numbers = ctypes.POINTER(ctypes.c_uint64)
+_masks = ctypes.POINTER(ctypes.c_uint32)
+_writable = ctypes.POINTER(ctypes.c_uint8)
+_bytes = ctypes.c_char_p
+_answer = (_numbers, _number)
+
+_ARGUMENTS = {
+    "rule_transform": (_number, _numbers, _number, _numbers, _number, *_answer),
+    "rule_way_back": (_number, _numbers, _number, _numbers, _number, *_answer),
+    "rule_listing": (_number, _numbers, _number, _masks, _number, *_answer),
+    "rule_raw_cost": (_number, _numbers, _number, *_answer),
+    "rule_compile": (_number, _numbers, _number, _writable, _number, *_answer),
+    "rule_read": (_number, _bytes, _number, _number, *_answer),
+    "rule_evaluate": (_number, _bytes, _number, _number, *_answer),
+    "rule_cost": (_number, _bytes, _number, *_answer),
+    "rule_cheaper": (_number, _bytes, _number, _bytes, _number),
+    "rule_examine": (_number, _numbers, _number, _bytes, _number, *_answer),
+}
+
+
+@functools.lru_cache(maxsize=None)
+def _library() -> ctypes.CDLL:
+    named = os.environ.get("GUIDE_RULES_LIBRARY")
+    path = named or str(Path(__file__).resolve().parent.parent / "target" / "python" / "libguide_rules.so")
+    try:
+        library = ctypes.CDLL(path)
+        for name, arguments in _ARGUMENTS.items():
+            call = getattr(library, name)
+            call.argtypes = arguments
+            call.restype = ctypes.c_uint64
+    except (OSError, AttributeError) as error:
+        whose = "the library that GUIDE_RULES_LIBRARY names" if named else "the library of guide_rules"
+        raise OSError(f"{whose} cannot be loaded ({error}); `make python` builds target/python/libguide_rules.so") from error
+    return library
+
+
+def _fitting(value: int, name: str) -> int:
+    number = operator.index(value)
+    if not 0 <= number < 1 << 64:
+        raise ValueError(f"{name} does not fit 64 bits: {number}")
+    return number
+
+
+def _entries(values: Sequence[int], name: str) -> List[int]:
+    return [_fitting(value, f"{name} {i}") for i, value in enumerate(values)]
+
+
+def _table(table: Table) -> List[int]:
+    if not isinstance(table, str):
+        return _entries(table, "table entry")
+    for i, digit in enumerate(table):
+        if digit not in "01":
+            raise ValueError(f"digit {i} of the table is neither 0 nor 1: {digit!r}")
+    return [int(digit) for digit in table]
+
+
+def _words(coefficients: Sequence[int]) -> List[int]:
+    if isinstance(coefficients, str):
+        raise TypeError("coefficients are a sequence of ints, not a string")
+    return _entries(coefficients, "coefficient word")
+
+
+def _lent(kind, count: int, values: Sequence[int] = ()):
+    # An entry more where there is none: the pointer is never null.
+    return (kind * max(count, 1))(*values)
+
+
+def _of(expression: Expression) -> bytes:
+    if isinstance(expression, str):
+        raise TypeError("an expression is bytes, not a string; parse makes them from 'VA0 VA1 OR'")
+    return expression if type(expression) is bytes else memoryview(expression).tobytes()
+
+
+def _settings(flags: int, limit: int) -> int:
+    # How many settings there are; 0 where the call refuses the flag count.
+    return 1 << flags if flags <= limit else 0
+
+
+def _call(name: str, *arguments) -> List[int]:
+    answer = (ctypes.c_uint64 * _ANSWERS)()
+    number = getattr(_library(), name)(*arguments, answer, _ANSWERS)
+    if number:
+        raise Refusal(number, answer[0])
+    return list(answer)
+
+
+def _numbers_of(values: List[int]):
+    return _lent(ctypes.c_uint64, len(values), values), len(values)
+
+
+def transform(flags: int, table: Table) -> List[int]:
+    """The table's coefficients, in words: coefficient m is bit m % 64 of word m // 64. Up to 16 flags."""
+    flags, entries = _fitting(flags, "flags"), _table(table)
+    room = (_settings(flags, FORM_FLAG_LIMIT) + 63) // 64
+    out = _lent(ctypes.c_uint64, room)
+    written = _call("rule_transform", flags, *_numbers_of(entries), out, room)[0]
+    return out[:written]
+
+
+def way_back(flags: int, coefficients: Sequence[int]) -> List[int]:
+    """The table, 0 or 1 for each setting, that has these coefficients. Up to 16 flags."""
+    flags, words = _fitting(flags, "flags"), _words(coefficients)
+    room = _settings(flags, FORM_FLAG_LIMIT)
+    out = _lent(ctypes.c_uint64, room)
+    written = _call("rule_way_back", flags, *_numbers_of(words), out, room)[0]
+    return out[:written]
+
+
+def listing(flags: int, coefficients: Sequence[int]) -> Listing:
+    """The constant and the monomials of the coefficients. Up to 16 flags."""
+    flags, words = _fitting(flags, "flags"), _words(coefficients)
+    room = max(_settings(flags, FORM_FLAG_LIMIT) - 1, 0)
+    out = _lent(ctypes.c_uint32, room)
+    constant, count = _call("rule_listing", flags, *_numbers_of(words), out, room)[:2]
+    return Listing(constant, out[:count])
+
+
+def raw_cost(flags: int, coefficients: Sequence[int]) -> int:
+    """The cost of the coefficients' raw form."""
+    return _call("rule_raw_cost", _fitting(flags, "flags"), *_numbers_of(_words(coefficients)))[0]
+
+
+def compile(flags: int, table: Table) -> Compilation:
+    """The table's expression, with its count of records, its cost and the raw cost."""
+    flags, entries = _fitting(flags, "flags"), _table(table)
+    out = _lent(ctypes.c_uint8, BYTE_LIMIT)
+    written, *counts = _call("rule_compile", flags, *_numbers_of(entries), out, BYTE_LIMIT)
+    return Compilation(ctypes.string_at(out, written), *counts)
+
+
+def _read(flags: int, data: bytes, place: int) -> Optional[Record]:
+    kind, payload, following = _call("rule_read", flags, data, len(data), place)[:3]
+    if kind == 0:
+        return None
+    mark = _MARKS[kind]
+    return Record(mark, payload if mark in _WITH_PAYLOAD else None, following)
+
+
+def read(flags: int, expression: Expression, place: int) -> Optional[Record]:
+    """The record that starts at a place, or None at the end."""
+    return _read(_fitting(flags, "flags"), _of(expression), _fitting(place, "place"))
+
+
+def records(flags: int, expression: Expression) -> List[Record]:
+    """All records in turn, by read; whether operands are missing or left over is not asked."""
+    flags, data = _fitting(flags, "flags"), _of(expression)
+    found: List[Record] = []
+    record = _read(flags, data, 0)
+    while record is not None:
+        found.append(record)
+        record = _read(flags, data, record.next)
+    return found
+
+
+def evaluate(flags: int, expression: Expression, setting: int) -> int:
+    """The expression's value, 0 or 1, at a setting, whose bit i is flag i."""
+    data = _of(expression)
+    return _call("rule_evaluate", _fitting(flags, "flags"), data, len(data), _fitting(setting, "setting"))[0]
+
+
+def cost(flags: int, expression: Expression) -> Costs:
+    """The expression's cost, size and depth."""
+    data = _of(expression)
+    return Costs(*_call("rule_cost", _fitting(flags, "flags"), data, len(data))[:3])
+
+
+def cheaper(flags: int, first: AnyExpression, second: AnyExpression) -> Optional[AnyExpression]:
+    """The second, as it was handed in, if its (size, depth) is smaller, else the first; None if flags or either is refused."""
+    one, two = _of(first), _of(second)
+    which = _library().rule_cheaper(_fitting(flags, "flags"), one, len(one), two, len(two))
+    return (None, first, second)[which]
+
+
+def examine(flags: int, table: Table, expression: Expression) -> int:
+    """The cost of an expression that has the table's bit at every setting and costs no more than the raw form; else a Refusal."""
+    entries, data = _table(table), _of(expression)
+    return _call("rule_examine", _fitting(flags, "flags"), *_numbers_of(entries), data, len(data))[0]
+
+
+def show(expression: Expression) -> str:
+    """The records in document 01's notation, as 'VA0 VA1 OR'; a ValueError where the bytes are no records. A payload may be any byte."""
+    data, texts, place = _of(expression), [], 0
+    while place < len(data):
+        mark = data[place:place + 2].decode("latin-1")
+        payload = data[place + 2:place + 3] if mark in _WITH_PAYLOAD else b""
+        if mark not in _MARKS[1:] or (mark in _WITH_PAYLOAD and not payload):
+            raise ValueError(f"no whole record at byte {place}")
+        texts.append(mark + (str(payload[0]) if payload else ""))
+        place += 2 + len(payload)
+    return " ".join(texts)
+
+
+def parse(text: str) -> bytes:
+    """The bytes of records in document 01's notation, as 'VA0 VA1 OR'; a ValueError where the text is none. It undoes show."""
+    found = []
+    for word in text.split():
+        match = re.fullmatch("(CO|VA)(0|[1-9][0-9]{0,2})|AN|OR|XO|NO", word)
+        if match is None or int(match[2] or 0) > 255:
+            raise ValueError(f"no record: {word!r}")
+        found.append(match[1].encode() + bytes([int(match[2])]) if match[1] else word.encode())
+    return b"".join(found)

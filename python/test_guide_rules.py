@@ -1,0 +1,204 @@
+"""Document 01's examples through the Python module.
+
+The expected values are the rows of document 01, "Marked examples of rules" and "Unmarked", or are worked by hand from its
+definitions where a comment says so; none comes from this library.
+"""
+
+import pickle
+import unittest
+
+import guide_rules
+from guide_rules import Refusal, parse, show
+
+# bits from setting 0, coefficient word, records, cost, raw cost
+MARKED = [
+    ("0", 0, "CO0", 1, 1),
+    ("1", 1, "CO1", 1, 1),
+    ("10", 3, "CO1 VA0 XO", 3, 3),
+    ("0110", 6, "VA0 VA1 XO", 3, 3),
+    ("0111", 14, "VA0 VA1 OR", 3, 7),
+    ("0100", 10, "VA0 VA1 NO AN", 4, 5),
+    ("00010000", 136, "VA0 VA1 VA2 NO AN AN", 6, 9),
+    ("00010111", 104, "VA0 VA1 VA2 XO AN VA1 VA2 AN XO", 9, 11),
+    ("01111111", 254, "VA0 VA1 OR VA2 OR", 4, 23),
+    ("01111000", 30, "VA0 VA1 OR VA2 XO", 5, 9),
+    ("10000000", 255, "CO1 VA0 VA1 OR VA2 OR XO", 6, 25),
+]
+
+# of table 01: the expression, the refusal's number and place
+UNMARKED = [
+    (parse("VA0 VA0 AN"), 13, 3),
+    (parse("CO0"), 12, 1),
+    (parse("VA0") + b"V", 6, 3),
+    (parse("VA0 VA0"), 10, 6),
+    (parse("AN"), 8, 0),
+    (parse("VA1"), 7, 0),
+    (parse("VA0" + " NO" * 384), 13, 385),
+    (parse("VA0" + " NO" * 385), 9, 771),
+]
+
+TOO_LARGE = 1 << 64
+
+
+class Rules(unittest.TestCase):
+    def refused(self, number, place, call, *arguments):
+        with self.assertRaises(Refusal) as caught:
+            call(*arguments)
+        self.assertEqual((caught.exception.number, caught.exception.place), (number, place))
+
+    def test_marked_rules(self):
+        for bits, word, text, cost, raw in MARKED:
+            with self.subTest(bits=bits):
+                flags = len(bits).bit_length() - 1
+                table = [int(digit) for digit in bits]
+                expression = parse(text)
+                self.assertEqual(show(expression), text)
+                for lent in (bits, table, tuple(table)):
+                    self.assertEqual(guide_rules.transform(flags, lent), [word])
+                    self.assertEqual(guide_rules.compile(flags, lent), (expression, len(text.split()), cost, raw))
+                    self.assertEqual(guide_rules.examine(flags, lent, expression), cost)
+                self.assertEqual(guide_rules.way_back(flags, [word]), table)
+                self.assertEqual(guide_rules.raw_cost(flags, [word]), raw)
+                self.assertEqual(guide_rules.cost(flags, expression)[:2], (cost, len(text.split())))
+                self.assertEqual([guide_rules.evaluate(flags, expression, s) for s in range(len(bits))], table)
+                found = [r.kind + ("" if r.payload is None else str(r.payload)) for r in guide_rules.records(flags, expression)]
+                self.assertEqual(found, text.split())
+
+    def test_unmarked(self):
+        for expression, number, place in UNMARKED:
+            with self.subTest(number=number, place=place):
+                self.refused(number, place, guide_rules.examine, 1, "01", expression)
+        self.assertEqual(guide_rules.transform(1, [2, 3]), guide_rules.transform(1, "01"))
+        self.assertEqual(guide_rules.transform(16, [0] * (1 << 16)), [0] * 1024)
+        self.refused(1, 0, guide_rules.transform, 17, [0] * (1 << 17))
+        self.assertEqual(show(guide_rules.compile(6, "0" * 64).expression), "CO0")
+        self.refused(1, 0, guide_rules.compile, 7, "0" * 128)
+
+    def test_listing(self):
+        self.assertEqual(guide_rules.listing(3, [30]), (0, [1, 2, 4, 3]))
+        # word 255 has every bit below 8
+        self.assertEqual(guide_rules.listing(3, [255]), (1, [1, 2, 4, 3, 5, 6, 7]))
+        self.assertEqual(guide_rules.listing(0, [1]), (1, []))
+        # every coefficient of 16 flags, of which 0 is the constant
+        self.assertEqual(len(guide_rules.listing(16, [TOO_LARGE - 1] * 1024).monomials), 65535)
+
+    def test_reading(self):
+        # worked by hand: VA0 is three bytes, NO two
+        expression = parse("VA0 NO")
+        self.assertEqual(guide_rules.read(1, expression, 0), guide_rules.Record("VA", 0, 3))
+        self.assertEqual(guide_rules.read(1, expression, 3), guide_rules.Record("NO", None, 5))
+        self.assertIsNone(guide_rules.read(1, expression, 5))
+        self.assertIsNone(guide_rules.read(1, expression, TOO_LARGE - 1))
+        self.assertEqual(guide_rules.records(1, b""), [])
+        self.refused(6, 4, guide_rules.read, 1, expression, 4)
+        self.refused(7, 0, guide_rules.records, 0, expression)
+        self.assertEqual(guide_rules.records(1, parse("AN")), [("AN", None, 2)])
+
+    def test_costs_and_cheaper(self):
+        # worked by hand: an OR is discounted for its first operand alone
+        left, right = parse("VA0 VA1 OR VA2 OR"), parse("VA0 VA1 VA2 OR OR")
+        self.assertEqual(guide_rules.cost(3, left), guide_rules.Costs(cost=4, size=5, depth=3))
+        self.assertEqual(guide_rules.cost(3, right), guide_rules.Costs(cost=5, size=5, depth=3))
+        # the second only if its (size, depth) is smaller
+        self.assertIs(guide_rules.cheaper(3, left, right), left)
+        self.assertIs(guide_rules.cheaper(3, right, left), right)
+        leaf = parse("VA2")
+        self.assertIs(guide_rules.cheaper(3, left, leaf), leaf)
+        # the same size, depth 4 and 3
+        deep, flat = parse("VA0 VA1 VA2 VA3 AN AN AN"), parse("VA0 VA1 AN VA2 VA3 AN AN")
+        self.assertIs(guide_rules.cheaper(4, deep, flat), flat)
+        self.assertIs(guide_rules.cheaper(4, flat, deep), flat)
+        self.assertIsNone(guide_rules.cheaper(2, left, parse("VA0")))
+        self.assertIsNone(guide_rules.cheaper(3, left, b""))
+        self.assertIsNone(guide_rules.cheaper(7, left, right))
+
+    def test_refusals_by_place_of_check(self):
+        leaf = parse("VA0")
+        for flags in (17, 64, TOO_LARGE - 1):
+            for call in (guide_rules.transform, guide_rules.way_back, guide_rules.listing):
+                self.refused(1, 0, call, flags, [])
+        for flags in (7, 64, TOO_LARGE - 1):
+            self.refused(1, 0, guide_rules.raw_cost, flags, [])
+            self.refused(1, 0, guide_rules.compile, flags, "")
+            self.refused(1, 0, guide_rules.read, flags, b"", 0)
+            self.refused(1, 0, guide_rules.records, flags, b"")
+            self.refused(1, 0, guide_rules.evaluate, flags, b"", TOO_LARGE - 1)
+            self.refused(1, 0, guide_rules.cost, flags, b"")
+            self.refused(1, 0, guide_rules.examine, flags, [], b"")
+        self.refused(2, 0, guide_rules.transform, 2, "011")
+        self.refused(2, 0, guide_rules.compile, 0, [])
+        self.refused(2, 0, guide_rules.examine, 1, "0", b"")
+        for call in (guide_rules.way_back, guide_rules.listing, guide_rules.raw_cost):
+            self.refused(3, 0, call, 0, [])
+            self.refused(4, 0, call, 1, [4])
+        self.refused(3, 0, guide_rules.listing, 7, [0])
+        self.refused(11, 0, guide_rules.evaluate, 1, b"", 2)
+        self.refused(10, 0, guide_rules.evaluate, 1, b"", 1)
+        self.refused(7, 0, guide_rules.cost, 0, leaf)
+        # what is past the needed entries and words is ignored
+        self.assertEqual(guide_rules.transform(1, "0111"), [2])
+        self.assertEqual(guide_rules.way_back(1, [2, 5]), [0, 1])
+
+    def test_refusal_as_exception(self):
+        with self.assertRaises(Refusal) as caught:
+            guide_rules.examine(1, "01", parse("CO0"))
+        refusal = caught.exception
+        self.assertEqual((refusal.number, refusal.place, refusal.words), (12, 1, "differs from the table"))
+        self.assertEqual(str(refusal), "refused by 12: differs from the table; place 1, the smallest such setting")
+        self.assertNotIsInstance(refusal, ValueError)
+        self.assertEqual(str(pickle.loads(pickle.dumps(refusal))), str(refusal))
+
+    def test_numbers_that_do_not_fit(self):
+        for bad in (-1, TOO_LARGE):
+            for call, arguments in (
+                (guide_rules.transform, (bad, "0")),
+                (guide_rules.transform, (0, [bad])),
+                (guide_rules.way_back, (0, [bad])),
+                (guide_rules.listing, (bad, [0])),
+                (guide_rules.raw_cost, (0, [0, bad])),
+                (guide_rules.compile, (1, [0, bad])),
+                (guide_rules.read, (0, b"", bad)),
+                (guide_rules.evaluate, (0, b"CO\0", bad)),
+                (guide_rules.cost, (bad, b"CO\0")),
+                (guide_rules.cheaper, (bad, b"CO\0", b"CO\0")),
+                (guide_rules.examine, (0, [bad], b"CO\0")),
+            ):
+                with self.assertRaises(ValueError):
+                    call(*arguments)
+
+    def test_other_types(self):
+        for table in ("01 ", "2", "0\n", "\u0661"):
+            with self.assertRaises(ValueError):
+                guide_rules.compile(0, table)
+        for call, arguments in (
+            (guide_rules.compile, (0, [0.0])),
+            (guide_rules.compile, (0, ["0"])),
+            (guide_rules.compile, (0, 0)),
+            (guide_rules.compile, ("0", "0")),
+            (guide_rules.way_back, (0, "1")),
+            (guide_rules.cost, (0, "CO0")),
+            (guide_rules.cost, (0, 5)),
+            (guide_rules.cost, (0, None)),
+            (guide_rules.evaluate, (0, b"CO\0", 0.0)),
+        ):
+            with self.assertRaises(TypeError):
+                call(*arguments)
+        for expression in (bytearray(b"CO\1"), memoryview(b"CO\1"), memoryview(b"C-O-\1-")[::2]):
+            self.assertEqual(guide_rules.evaluate(0, expression, 0), 1)
+
+    def test_notation(self):
+        self.assertEqual(parse("VA0 VA1 OR"), b"VA\0VA\1OR")
+        self.assertEqual(show(b"VA\0VA\1OR"), "VA0 VA1 OR")
+        self.assertEqual(parse(""), b"")
+        self.assertEqual(show(b""), "")
+        self.assertEqual(show(parse("VA255 CO7")), "VA255 CO7")
+        for text in ("VA", "VA256", "VA01", "OR1", "XX", "va0", "VA0VA1", "VA-1", "VA\u0661"):
+            with self.assertRaises(ValueError):
+                parse(text)
+        for damaged in (b"V", b"VA", b"CO", b"XX", b"VA\0V", b"\xff\xff"):
+            with self.assertRaises(ValueError):
+                show(damaged)
+
+
+if __name__ == "__main__":
+    unittest.main()
