@@ -2,12 +2,14 @@
 -- by hand from what each definition's file says of it; nothing here came from a program.
 use mathlib.Core.Bool.{true, false, not, _&&_}
 use mathlib.Core.List.{[], _∷_}
+use mathlib.Core.Path.{refl}
 use Prim.Native.Nat.{ℕ, zero, suc, _+_, _-_, _*_}
 use native.Mathlib.Omega.{arith}
 use lib.Dec.{T, eqb, ltb}
 use Rattle.bits.specs.Bit.{_⊕_, digit, bit, within}
 use Rattle.bits.specs.Fixed.{below, turns, fixed}
 use Rattle.bits.specs.Range.{from, upto, keep, all, any, mem, same, After, Ascending, Below}
+use Rattle.bits.specs.Stored.{Room, Stored}
 use Rattle.bits.specs.Sum.{sum, total, parity, union}
 use Rattle.bits.specs.Word.{places, word}
 
@@ -54,6 +56,7 @@ pub choice-rows :
     && not (any (ltb 2) [])
     && mem 4 (5 ∷ 4 ∷ [])
     && not (mem 3 (5 ∷ 4 ∷ []))
+    && not (mem 6 (5 ∷ 4 ∷ []))
     )
 unfolding keep all any same
 choice-rows = tt
@@ -116,6 +119,9 @@ ascending-row = (omega arith, (omega arith, tt))
 pub not-ascending : ¬ Ascending (1 ∷ 3 ∷ 3 ∷ [])
 not-ascending h = omega (arith, h .1 .0)
 
+pub first-not-ascending : ¬ Ascending (3 ∷ 1 ∷ [])
+first-not-ascending h = omega (arith, h .0)
+
 pub not-after : ¬ After 3 (3 ∷ [])
 not-after h = omega (arith, h .0)
 
@@ -124,3 +130,14 @@ below-row = (omega arith, (omega arith, (omega arith, tt)))
 
 pub not-below : ¬ Below 4 (3 ∷ 4 ∷ [])
 not-below h = omega (arith, h .1 .0)
+
+-- ---- stores: two entries behind the first of a buffer of three, where they just fit, and not behind the second
+
+pub room-row : Room (1 ∷ 2 ∷ []) 1 (7 ∷ 8 ∷ 9 ∷ [])
+room-row = record { fits = omega arith }
+
+pub no-room : ¬ Room (1 ∷ 2 ∷ []) 2 (7 ∷ 8 ∷ 9 ∷ [])
+no-room h = omega (arith, h .fits)
+
+pub stored-row : Stored (1 ∷ 2 ∷ []) 1 3 (7 ∷ 8 ∷ 9 ∷ []) (7 ∷ 1 ∷ 2 ∷ [])
+stored-row = record { place = refl; within = omega arith; entries = refl }

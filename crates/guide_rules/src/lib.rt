@@ -79,7 +79,8 @@ pub extern "C" fn rule_listing(
     let listing = anf_form::from_anf_coeffs(flags, coefficients, out);
     match listing {
         Listing::Listed(contents) => {
-            let numbers = [contents.constant as u64, contents.count as u64];
+            let constant = contents.constant as u64;
+            let numbers = [constant, contents.count as u64];
             answer::result(answer, &numbers)
         }
         Listing::Refused(refusal) => answer::refusal(answer, refusal),

@@ -12,7 +12,7 @@ use Rattle.bits.specs.Range.{all, same}
 use Rattle.rules.specs.Calls.{transform, wayBack, rawCosting, compile, read, parse, evaluate, costing, cheaperOfTwo, examine}
 use Rattle.rules.specs.Outcome.{gives, refuses, refuse, _then_, written, front, left}
 use Rattle.rules.specs.Machine.{WellFormed}
-use Rattle.rules.specs.Record.{Flag, FlagBelow, mark}
+use Rattle.rules.specs.Record.{Constant, Flag, And, Or, Xor, Not, FlagBelow, mark}
 use Rattle.rules.specs.Tree.{VA, AN, NO}
 use Rattle.rules.proofs.Answers.{entriesOf, bytesOf, isRefusal, isNumber, isCompilation, isCosts, isRecord, isParsed, isGiven}
 use Rattle.rules.proofs.Computing.{computing}
@@ -118,6 +118,9 @@ flag-below = omega arith
 pub flag-not-below : ¬ FlagBelow 2 (Flag 2)
 flag-not-below h = omega (arith, h)
 
+pub no-flag-below : FlagBelow 0 (Constant true) × FlagBelow 0 And × FlagBelow 0 Or × FlagBelow 0 Xor × FlagBelow 0 Not
+no-flag-below = (tt, tt, tt, tt, tt)
+
 -- ---- evaluation and costing
 
 -- an expression's values at the settings of two flags
@@ -187,11 +190,12 @@ pub examine-rows : T (all isAccepted marked-rows)
 unfolding computing isAccepted marked-rows
 examine-rows = tt
 
--- what is dearer than the compiler's expression, 3, and no dearer than the raw form, 7
+-- what is dearer than the compiler's expression, 3, and no dearer than the raw form, 7; the last has nine records and costs 6
 pub dearer-rows :
     T (
     isNumber 5 (examine 2 (entriesOf "0111") (bytesOf "VA0 VA1 OR NO NO"))
     && isNumber 7 (examine 2 (entriesOf "0111") (bytesOf "VA0 VA1 XO VA0 VA1 AN XO"))
+    && isNumber 6 (examine 2 (entriesOf "0111") (bytesOf "VA0 VA1 OR VA0 OR VA1 OR VA0 OR"))
     )
 unfolding computing isNumber entriesOf bytesOf
 dearer-rows = tt

@@ -8,11 +8,22 @@ use Prim.Native.String.{String}
 use lib.Dec.{T, eqb}
 use Rattle.bits.specs.Range.{same}
 use Rattle.rules.specs.Cleanup.{family, atop, greatest, singles, isFamily, isPartial, bestFamily, covered, stripped, isCube}
-use Rattle.rules.specs.Cleanup.{cubeSaving, bestCube, absorption, cheaper, cleanup}
+use Rattle.rules.specs.Cleanup.{partialOr, cubeSaving, bestCube, cubeAt, commonCube, absorption, cheaper, cleanup}
 use Rattle.rules.specs.Form.{flags, cube, orChain, folded, rawForm, termCost, rawCost, literals}
-use Rattle.rules.specs.Tree.{Tree, VA, NO}
+use Rattle.rules.specs.Tree.{Tree, VA, AN, NO}
 use Rattle.rules.proofs.Answers.{isTree}
 use Rattle.rules.proofs.Computing.{computing}
+
+-- the candidates of a rule: one or none
+unfoldable pub isCandidate : String → List Tree → Bool
+unfolding isTree
+isCandidate t [] = false
+isCandidate t (u ∷ []) = isTree t u
+isCandidate t (u ∷ v ∷ l) = false
+
+unfoldable pub isNone : List Tree → Bool
+isNone [] = true
+isNone (u ∷ l) = false
 
 -- ---- products, chains, raw forms
 
@@ -97,6 +108,7 @@ pub whole-family-rows :
     && not (isFamily (1 ∷ 2 ∷ []))
     && not (isFamily (1 ∷ 2 ∷ 3 ∷ 4 ∷ []))
     && not (isFamily (1 ∷ 3 ∷ []))
+    && not (isFamily (1 ∷ 2 ∷ 7 ∷ []))
     && not (isFamily (0 ∷ []))
     )
 unfolding computing
@@ -109,7 +121,7 @@ atop-rows = tt
 
 -- ---- "2. Partial OR."
 
--- "monomials M of two or more flags, all of whose nonempty subsets are monomials and fewer than all"
+-- "monomials M of two or more flags, all of whose nonempty subsets are monomials and fewer than all"; in the last row ab is none of the eight
 pub partial-rows :
     T (
     isPartial (1 ∷ 2 ∷ 3 ∷ 4 ∷ []) 3
@@ -117,6 +129,8 @@ pub partial-rows :
     && not (isPartial (1 ∷ 2 ∷ 3 ∷ []) 3)
     && not (isPartial (0 ∷ 1 ∷ 2 ∷ 3 ∷ []) 3)
     && not (isPartial (1 ∷ 3 ∷ 4 ∷ 5 ∷ []) 3)
+    && isPartial (1 ∷ 2 ∷ 3 ∷ 4 ∷ 5 ∷ 6 ∷ 7 ∷ 8 ∷ []) 7
+    && not (isPartial (1 ∷ 2 ∷ 4 ∷ 5 ∷ 6 ∷ 7 ∷ 8 ∷ 9 ∷ []) 7)
     )
 unfolding computing
 partial-rows = tt
@@ -142,6 +156,17 @@ pub best-family-rows :
     )
 unfolding computing
 best-family-rows = tt
+
+-- "Candidate: XO of chain and cleaned remainder. The constant stays in the remainder.": beside a, b and ab there are 1 and c, and c and cd
+pub partial-or-rows :
+    T (
+    isCandidate "VA0 VA1 OR CO1 VA2 XO XO" (partialOr cleanup (0 ∷ 1 ∷ 2 ∷ 3 ∷ 4 ∷ []))
+    && isCandidate "VA0 VA1 OR VA2 VA3 NO AN XO" (partialOr cleanup (1 ∷ 2 ∷ 3 ∷ 4 ∷ 12 ∷ []))
+    && isNone (partialOr cleanup (0 ∷ 1 ∷ 2 ∷ 3 ∷ []))
+    && isNone (partialOr cleanup (1 ∷ 2 ∷ 4 ∷ 7 ∷ []))
+    )
+unfolding computing isCandidate isNone
+partial-or-rows = tt
 
 -- ---- "3. Common cube."
 
@@ -182,12 +207,13 @@ unfolding computing
 meeting-rows = tt
 
 -- "raw cost of the covered monomials, without the constant, less 1 less the cube's cost less the cleaned inner cost": of ab and ac by a it is
--- 7 - 1 - 1 - 3, of abc and abd by ab 11 - 1 - 3 - 3, of a and ab by a 5 - 1 - 1 - 3, and of ab, ac and abc by a 13 - 1 - 1 - 3 with the inner
--- form b or c
+-- 7 - 1 - 1 - 3, also beside the constant or d, of abc and abd by ab 11 - 1 - 3 - 3, of a and ab by a 5 - 1 - 1 - 3, and of ab, ac and abc by a
+-- 13 - 1 - 1 - 3 with the inner form b or c
 pub saving-rows :
     T (
     eqb (cubeSaving cleanup (3 ∷ 5 ∷ []) 1) 2
     && eqb (cubeSaving cleanup (0 ∷ 3 ∷ 5 ∷ []) 1) 2
+    && eqb (cubeSaving cleanup (3 ∷ 5 ∷ 8 ∷ []) 1) 2
     && eqb (cubeSaving cleanup (7 ∷ 11 ∷ []) 3) 4
     && eqb (cubeSaving cleanup (1 ∷ 3 ∷ []) 1) 0
     && eqb (cubeSaving cleanup (3 ∷ 5 ∷ 7 ∷ []) 1) 8
@@ -205,18 +231,20 @@ pub best-cube-rows :
 unfolding computing
 best-cube-rows = tt
 
+-- "Candidate: AN of cube and inner, in XO with the cleaned remainder (the monomials not covered, and the form's constant) unless that is empty
+-- with constant 0."; by ab, which covers abc and abd, the monomial a is left, though it has a flag of the cube
+pub common-cube-rows :
+    T (
+    isCandidate "VA0 VA1 VA2 XO AN" (commonCube cleanup (3 ∷ 5 ∷ []))
+    && isCandidate "VA0 VA1 VA2 XO AN CO1 XO" (commonCube cleanup (0 ∷ 3 ∷ 5 ∷ []))
+    && isCandidate "VA0 VA1 AN VA2 VA3 XO AN CO1 VA0 XO XO" (cubeAt cleanup (0 ∷ 1 ∷ 7 ∷ 11 ∷ []) 3)
+    && isNone (commonCube cleanup (1 ∷ 3 ∷ []))
+    && isNone (commonCube cleanup (0 ∷ 3 ∷ []))
+    )
+unfolding computing isCandidate isNone
+common-cube-rows = tt
+
 -- ---- "4. Absorption."
-
--- the candidates: one or none
-unfoldable pub isCandidate : String → List Tree → Bool
-unfolding isTree
-isCandidate t [] = false
-isCandidate t (u ∷ []) = isTree t u
-isCandidate t (u ∷ v ∷ l) = false
-
-unfoldable pub isNone : List Tree → Bool
-isNone [] = true
-isNone (u ∷ l) = false
 
 -- "Exactly 2 monomials, one a strict subset m of the other: AN of m and NO of the product of the other's remaining flags; with constant 1, XO of
 -- CO 1 and that."
@@ -233,12 +261,14 @@ absorption-rows = tt
 
 -- ---- the contest
 
--- "replace the best only if strictly cheaper"
+-- "replace the best only if strictly cheaper": the OR chain of three flags has five records and costs 4, their product 5, and the last row's AN 4
 pub cheaper-rows :
     T (
     isTree "VA0" (cheaper (NO (VA 1)) (VA 0))
     && isTree "VA1" (cheaper (VA 1) (VA 0))
     && isTree "VA1" (cheaper (VA 1) (NO (VA 0)))
+    && isTree "VA0 VA1 OR VA2 OR" (cheaper (cube 7) (orChain 7))
+    && isTree "VA0 VA1 OR VA2 OR" (cheaper (orChain 7) (AN (VA 0) (NO (VA 1))))
     )
 unfolding computing isTree
 cheaper-rows = tt

@@ -191,7 +191,7 @@ pub reader-refusals :
 unfolding computing isRefusal isRecord isEnd bytesOf
 reader-refusals = tt
 
--- ---- rows 12 and 13: "differs from the table", "smallest such setting"; "cost above raw cost", "the cost"
+-- ---- rows 12 and 13: "differs from the table", "smallest such setting"; "cost above raw cost", "the cost": of the last, 4 with its discount
 
 pub examination-refusals :
     T (
@@ -199,6 +199,7 @@ pub examination-refusals :
     && isRefusal 12 3 (examine 2 (entriesOf "0110") (bytesOf "VA0 VA1 OR"))
     && isRefusal 12 0 (examine 1 (entriesOf "01") (bytesOf "VA0 NO NO NO"))
     && isRefusal 13 5 (examine 2 (entriesOf "0101") (bytesOf "VA0 NO NO NO NO"))
+    && isRefusal 13 4 (examine 1 (entriesOf "01") (bytesOf "VA0 VA0 OR VA0 OR"))
     )
 unfolding computing isRefusal entriesOf bytesOf
 examination-refusals = tt

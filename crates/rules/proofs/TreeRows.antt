@@ -60,6 +60,8 @@ pub no-discount-rows :
     && eqb (cost (OR (NO (OR (VA 0) (VA 1))) (VA 2))) 6
     && eqb (cost (AN (OR (VA 0) (VA 1)) (VA 2))) 5
     && eqb (cost (XO (OR (VA 0) (VA 1)) (VA 2))) 5
+    && eqb (cost (AN (VA 0) (OR (VA 1) (VA 2)))) 5
+    && eqb (cost (XO (VA 0) (OR (VA 1) (VA 2)))) 5
     )
 unfolding computing
 no-discount-rows = tt
@@ -73,6 +75,9 @@ pub size-rows :
     && eqb (size (AN (VA 0) (NO (VA 1)))) 4
     && eqb (size (OR (OR (VA 0) (VA 1)) (VA 2))) 5
     && eqb (size (XO (CO true) (XO (VA 0) (VA 1)))) 5
+    && eqb (size (AN (NO (VA 0)) (VA 1))) 4
+    && eqb (size (OR (VA 0) (NO (VA 1)))) 4
+    && eqb (size (XO (NO (VA 0)) (VA 1))) 4
     )
 unfolding computing
 size-rows = tt
@@ -89,6 +94,19 @@ pub depth-rows :
     )
 unfolding computing
 depth-rows = tt
+
+-- of operands of depths 3 and 2, in either order, the one of depth 3 is "its deepest operand"
+pub deepest-rows :
+    T (
+    eqb (depth (AN (NO (NO (VA 0))) (NO (VA 1)))) 4
+    && eqb (depth (AN (NO (VA 0)) (NO (NO (VA 1))))) 4
+    && eqb (depth (OR (NO (NO (VA 0))) (NO (VA 1)))) 4
+    && eqb (depth (OR (NO (VA 0)) (NO (NO (VA 1))))) 4
+    && eqb (depth (XO (NO (NO (VA 0))) (NO (VA 1)))) 4
+    && eqb (depth (XO (NO (VA 0)) (NO (NO (VA 1))))) 4
+    )
+unfolding computing
+deepest-rows = tt
 
 -- "Each record starts with a two-byte ASCII mark": C, O, V, A, N, R, X are 67, 79, 86, 65, 78, 82, 88
 pub ascii-rows :
@@ -119,13 +137,16 @@ write-rows = tt
 pub byte-limit : T (eqb byteLimit (193 * 3 + 192 * 2))
 byte-limit = tt
 
--- the flags that stand in a tree, as a mask
+-- the flags that stand in a tree, as a mask; flags 0 and 2 in one operand, 1 and 2 in the other
 pub mentioned-rows :
     T (
     eqb (mentioned (CO true)) 0
     && eqb (mentioned (VA 3)) 8
     && eqb (mentioned (AN (VA 0) (NO (VA 2)))) 5
     && eqb (mentioned (OR (VA 1) (XO (VA 1) (VA 0)))) 3
+    && eqb (mentioned (AN (OR (VA 0) (VA 2)) (OR (VA 1) (VA 2)))) 7
+    && eqb (mentioned (OR (AN (VA 0) (VA 2)) (AN (VA 1) (VA 2)))) 7
+    && eqb (mentioned (XO (AN (VA 0) (VA 2)) (AN (VA 1) (VA 2)))) 7
     )
 unfolding computing
 mentioned-rows = tt
@@ -139,3 +160,16 @@ flags-not-below h = omega (arith, h .0 .0)
 
 pub negated-flag-not-below : ¬ FlagsBelow 2 (XO (VA 1) (NO (VA 2)))
 negated-flag-not-below h = omega (arith, h .1)
+
+pub second-flag-not-below : ¬ FlagsBelow 2 (AN (VA 0) (VA 2))
+second-flag-not-below h = omega (arith, h .1)
+
+pub chained-flag-not-below : ¬ FlagsBelow 2 (OR (VA 0) (VA 2))
+chained-flag-not-below h = omega (arith, h .1)
+
+pub first-flag-not-below : ¬ FlagsBelow 2 (XO (VA 2) (VA 0))
+first-flag-not-below h = omega (arith, h .0)
+
+-- a constant names none
+pub constant-below : FlagsBelow 0 (CO true)
+constant-below = tt

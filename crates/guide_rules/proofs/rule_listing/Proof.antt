@@ -19,8 +19,8 @@ from-anf-coeffs-requires c κs = search needs
 enum-known-listing : tie.Need-enum-known-listing
 enum-known-listing c = search needs
 
-cast-t12 : tie.Need-cast-t12
-cast-t12 c = search needs
+cast-constant : tie.Need-cast-constant
+cast-constant c = search needs
 
 slice-aggregate-result : tie.Need-slice-aggregate-result
 slice-aggregate-result c = search needs
@@ -73,7 +73,7 @@ rule-listing-spec =
     (tie.spec
     from-anf-coeffs-requires
     enum-known-listing
-    cast-t12
+    cast-constant
     slice-aggregate-result
     result-requires
     enum-known-listing-2
