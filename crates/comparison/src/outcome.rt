@@ -2,8 +2,10 @@
 ghost use mathlib.Core.Path.{_≡_};
 ghost use Rattle.comparison.specs.Outcome.{results, refusal, sameOutcome};
 
-// A refusal's number, or 0, and up to four results. The first result of a refusal is its place.
+// Whether it is a refusal, so that no result reads as one; a refusal's number, or 0; and up to four results. The first result
+// of a refusal is its place.
 pub struct Outcome {
+    pub refused: bool,
     pub number: u64,
     pub first: usize,
     pub second: usize,
@@ -15,6 +17,7 @@ pub fn given(first: usize, second: usize, third: usize, fourth: usize) -> Outcom
     ensures { λ r. ⌜ r ≡ results first second third fourth ⌝ }
 {
     Outcome {
+        refused: false,
         number: 0,
         first,
         second,
@@ -27,6 +30,7 @@ pub fn refused(number: u64, place: usize) -> Outcome
     ensures { λ r. ⌜ r ≡ refusal number place ⌝ }
 {
     Outcome {
+        refused: true,
         number,
         first: place,
         second: 0,
@@ -42,11 +46,12 @@ pub fn damaged() -> Outcome
     refused(256, 0)
 }
 
-// Whether two outcomes have the same number and the same results.
+// Whether two outcomes are both refusals or both none, and have the same number and the same results.
 pub fn is_same(one: Outcome, other: Outcome) -> bool
     ensures { λ r. ⌜ r ≡ sameOutcome one other ⌝ }
 {
-    (one.number == other.number)
+    (one.refused == other.refused)
+        & (one.number == other.number)
         & (one.first == other.first)
         & (one.second == other.second)
         & (one.third == other.third)

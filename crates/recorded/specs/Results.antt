@@ -1,12 +1,15 @@
 -- A recorded outcome.
---   outcomeAt k l at   == the outcome with number k and the three results that stand in l from place at on, two bytes each
+--   outcomeAt k l at   == the outcome with number k, where 0 is no refusal, and the three results that stand in l from place at on, two bytes each
+use mathlib.Core.Bool.{not}
 use mathlib.Core.List.{List}
 use Prim.Native.Nat.{ℕ, _+_}
+use lib.Dec.{eqb}
 use Rattle.comparison.specs.declared.outcome.Outcome.{Outcome}
 use Rattle.recorded.specs.Numbers.{pairAt}
 
 abbrev pub outcomeAt : ℕ → List ℕ → ℕ → Outcome
 outcomeAt k l at = record {
+  refused = not (eqb k 0);
   number = k;
   first = pairAt l at;
   second = pairAt l (at + 2);

@@ -1,10 +1,12 @@
 // How much a table of n flags takes in each of its forms. A flag count that no table has answers 0 entries, so that a
 // damaged file shows as a difference.
+ghost use mathlib.Core.Path.{_≡_};
 ghost use Prim.Native.Nat.{_^_, _≤_};
+ghost use Rattle.replay.specs.Sizes.{entriesOf, wordsOf, bytesOf};
 
 // One entry for each setting.
 pub fn entries(flags: usize) -> usize
-    ensures { λ r. ⌜ r ≤ 2 ^ 16 ⌝ }
+    ensures { λ r. ⌜ (r ≡ entriesOf flags) × (r ≤ 2 ^ 16) ⌝ }
 {
     if flags > 16 {
         return 0;
@@ -14,7 +16,7 @@ pub fn entries(flags: usize) -> usize
 
 // 64 coefficients to a word, rounded up.
 pub fn words(flags: usize) -> usize
-    ensures { λ r. ⌜ r ≤ 2 ^ 10 ⌝ }
+    ensures { λ r. ⌜ (r ≡ wordsOf flags) × (r ≤ 2 ^ 10) ⌝ }
 {
     if flags <= 6 {
         return 1;
@@ -24,7 +26,7 @@ pub fn words(flags: usize) -> usize
 
 // 8 bits to a byte, rounded up.
 pub fn bytes(flags: usize) -> usize
-    ensures { λ r. ⌜ r ≤ 2 ^ 13 ⌝ }
+    ensures { λ r. ⌜ (r ≡ bytesOf flags) × (r ≤ 2 ^ 13) ⌝ }
 {
     if flags <= 3 {
         return 1;

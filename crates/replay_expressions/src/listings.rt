@@ -1,6 +1,6 @@
 // One form of listings.bin: the constant and the number of monomials in the head, and after it the coefficients and the
 // original's list. It rests on the listing call, which is also asked to refuse the form with too many flags and in a buffer
-// that is short.
+// that is short; the promises say that what is compared is the call on paper.
 use anf_form::Contents;
 use anf_form::Listing;
 use anf_form::from_anf_coeffs;
@@ -16,9 +16,12 @@ use recorded::slices::set_words;
 use replay::file;
 use replay::sizes;
 ghost use mathlib.Core.Path.{_≡_};
-ghost use lib.ListN.{length};
-ghost use Rattle.rules.specs.Calls;
-ghost use Rattle.replay_expressions.specs.Listings.{contentsOf, listedBy, Compared};
+ghost use Prim.Native.Nat.{_+_, _^_, _≤_};
+ghost use lib.ListN.{length, replicate};
+ghost use Rattle.rules.specs.Calls as paper;
+ghost use Rattle.comparison.specs.Called.{comesTo};
+ghost use Rattle.replay_expressions.specs.Listings.{listedOf, masksAfter, contentsOf, listedBy, pattern, wordsIn};
+ghost use Rattle.replay_expressions.specs.Listings.{refusedAs, shortRefused, listedAs, formAgrees};
 
 // Fills the lent buffer, so that a change past the result, or after a refusal, shows.
 const PATTERN: u32 = 0x89AB_CDEF;
@@ -39,10 +42,10 @@ fn told(answer: Listing) -> Outcome
     }
 }
 
-// The listing call with the outcome that it must have and the whole buffer that it must leave. `out` holds the pattern.
+// The listing call with the outcome that it must have and the whole buffer that it must leave.
 fn lists_as(flags: usize, words: &[u64], out: &mut [u32], expected: Outcome, left: &[u32]) -> bool
-    ensures { λ r. ⌜ Compared (Calls.listing flags (now (words .entry)) (length (now (out .entry))))
-        (now (out .exit)) expected (now (left .entry)) r ⌝ }
+    ensures { λ r. ⌜ r ≡ comesTo listedOf masksAfter (paper.listing flags (now (words .entry)) (length (now (out .entry))))
+        (now (out .entry)) expected (now (left .entry)) ⌝ }
 {
     let answer = from_anf_coeffs(flags, words, out);
     is_same(told(answer), expected) & masks::are_same(out, left)
@@ -55,53 +58,84 @@ pub struct Asked {
     pub lacking: usize,
 }
 
+fn is_refused(flags: usize, words: &[u64], room: usize, expected: Outcome) -> bool
+    requires { ⌜ room ≤ 2 ^ 16 + 3 ⌝ }
+    ensures { λ r. ⌜ r ≡ refusedAs flags (now (words .entry)) room expected ⌝ }
+{
+    let mut out = [PATTERN; 65539];
+    let left = [PATTERN; 65539];
+    lists_as(flags, words, &mut out[0..room], expected, &left[0..room])
+}
+
 // A form with fewer monomials than the buffer is to lack has no such buffer: an empty one takes it.
-fn is_short_refused(
-    flags: usize,
-    words: &[u64],
-    out: &mut [u32],
-    count: usize,
-    lacking: usize,
-) -> bool {
+fn is_short_refused(flags: usize, words: &[u64], count: usize, lacking: usize) -> bool
+    requires { ⌜ count ≤ 2 ^ 16 ⌝ }
+    ensures { λ r. ⌜ r ≡ shortRefused flags (now (words .entry)) count lacking ⌝ }
+{
     if count < lacking {
         return true;
     }
-    let room = count - lacking;
-    if room > out.len() || room > 65536 {
+    is_refused(flags, words, count - lacking, refused(5, count))
+}
+
+// `out` and `left` hold the pattern in each of their `room` entries.
+fn lists(
+    flags: usize,
+    words: &[u64],
+    room: usize,
+    out: &mut [u32],
+    left: &mut [u32],
+    head: &[u8],
+    masks: &[u8],
+) -> bool
+    requires { ⌜ (now out ≡ replicate room pattern) × (now left ≡ replicate room pattern) × (length (now out) ≡ room) × (length (now left) ≡ room) ⌝ }
+    ensures { λ r. ⌜ r ≡ listedAs flags (now (words .entry)) room (now (head .entry)) (now (masks .entry)) ⌝ }
+{
+    let count = pair_at(head, 2) as usize;
+    if count > room {
         return false;
     }
-    let left = [PATTERN; 65536];
-    lists_as(
+    set_masks(&mut left[0..count], masks);
+    let expected = given(byte_at(head, 1) as usize, count, 0, 0);
+    lists_as(flags, words, out, expected, left)
+}
+
+fn is_listed(flags: usize, words: &[u64], room: usize, head: &[u8], masks: &[u8]) -> bool
+    requires { ⌜ room ≤ 2 ^ 16 + 3 ⌝ }
+    ensures { λ r. ⌜ r ≡ listedAs flags (now (words .entry)) room (now (head .entry)) (now (masks .entry)) ⌝ }
+{
+    let mut out = [PATTERN; 65539];
+    let mut left = [PATTERN; 65539];
+    lists(
         flags,
         words,
+        room,
         &mut out[0..room],
-        refused(5, count),
-        &left[0..room],
+        &mut left[0..room],
+        head,
+        masks,
     )
 }
 
-fn is_listed(flags: usize, words: &[u64], out: &mut [u32], head: &[u8], masks: &[u8]) -> bool {
-    let room = out.len();
+fn agrees(flags: usize, words: &[u64; 1027], head: &[u8], masks: &[u8], asked: Asked) -> bool
+    ensures { λ r. ⌜ r ≡ formAgrees flags (now (words .entry)) (now (head .entry)) (now (masks .entry)) (asked .flags) (asked .lacking) ⌝ }
+{
+    let room = sizes::entries(flags) + 3;
     let count = pair_at(head, 2) as usize;
-    if count > room || room > 65539 {
-        return false;
-    }
-    let mut left = [PATTERN; 65539];
-    let left = &mut left[0..room];
-    set_masks(&mut left[0..count], masks);
-    let outcome = given(byte_at(head, 1) as usize, count, 0, 0);
-    lists_as(flags, words, out, outcome, left)
+    is_refused(asked.flags, words, room, refused(1, 0))
+        & is_short_refused(flags, words, count, asked.lacking)
+        & is_listed(flags, words, room, head, masks)
 }
 
-// The form that the words begin with; the words after it must be ignored.
-fn agrees(flags: usize, words: &[u64; 1027], head: &[u8], masks: &[u8], asked: Asked) -> bool {
-    let mut out = [PATTERN; 65539];
-    let left = [PATTERN; 65539];
-    let room = sizes::entries(flags) + 3;
-    let out = &mut out[0..room];
-    lists_as(asked.flags, words, out, refused(1, 0), &left[0..room])
-        && is_short_refused(flags, words, out, pair_at(head, 2) as usize, asked.lacking)
-        && is_listed(flags, words, out, head, masks)
+// The form that the bytes have. The words after it must be ignored.
+fn agrees_form(flags: usize, bytes: &[u8], head: &[u8], masks: &[u8], asked: Asked) -> bool
+    ensures { λ r. ⌜ r ≡ formAgrees flags (wordsIn flags (now (bytes .entry))) (now (head .entry)) (now (masks .entry))
+        (asked .flags) (asked .lacking) ⌝ }
+{
+    let count = sizes::words(flags);
+    let mut words = [u64::MAX; 1027];
+    set_words(&mut words[0..count], bytes);
+    agrees(flags, &words, head, masks, asked)
 }
 
 // The rest of a form: its coefficients and its list, each as long as the slice that takes it.
@@ -119,10 +153,7 @@ fn is_same_rest(
     if !file::fills(fd, masks) {
         return false;
     }
-    let count = sizes::words(flags);
-    let mut words = [u64::MAX; 1027];
-    set_words(&mut words[0..count], bytes);
-    agrees(flags, &words, head, masks, asked)
+    agrees_form(flags, bytes, head, masks, asked)
 }
 
 pub fn is_same_form(fd: i32, head: &[u8], asked: Asked) -> bool {

@@ -2,7 +2,6 @@
 // original Rust, answers to them, and a line for each file says how many were compared and how many differ. The answers in
 // the files named wrong, and those that the program itself makes wrong, differ on purpose, and the lines must say so. It
 // rests on the library's calls; the formats of the files are in data/README.md.
-mod calls;
 mod cases;
 mod choices;
 mod costs;

@@ -1,1 +1,3 @@
 pub mod Answers
+pub mod Table
+pub mod Injective

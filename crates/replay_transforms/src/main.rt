@@ -5,6 +5,7 @@
 mod calls;
 mod files;
 mod one_table;
+mod padded;
 mod refusals;
 
 use crate::one_table::Way;

@@ -4,12 +4,16 @@
 use crate::calls::PATTERN;
 use crate::calls::goes_back_to;
 use crate::calls::transforms_to;
+use crate::padded;
 use comparison::outcome::Outcome;
-use recorded::slices::set_bits;
 use recorded::slices::set_pattern;
 use recorded::slices::set_table;
-use recorded::slices::set_words;
 use replay::sizes;
+ghost use mathlib.Core.Path.{_≡_};
+ghost use Prim.Native.Nat.{_+_, _^_, _≤_};
+ghost use lib.ListN.{length};
+ghost use Rattle.replay.specs.Sizes.{entriesOf, wordsOf};
+ghost use Rattle.replay_transforms.specs.Table.{transformed, restored, agreed};
 
 pub enum Way {
     There,
@@ -24,19 +28,14 @@ fn is_transformed(
     words: &mut [u64],
     left: &mut [u64],
     expected: Outcome,
-) -> bool {
-    let settings = sizes::entries(flags);
-    let count = sizes::words(flags);
-    if settings > table.len() || count + 3 > words.len() || count + 3 > left.len() {
-        return false;
-    }
-    let table = &mut table[0..settings];
-    let words = &mut words[0..count + 3];
-    let left = &mut left[0..count + 3];
+) -> bool
+    requires { ⌜ (length (now table) ≡ entriesOf flags) × (length (now words) ≡ wordsOf flags + 3)
+        × (length (now left) ≡ wordsOf flags + 3) × (wordsOf flags ≤ 2 ^ 10) ⌝ }
+    ensures { λ r. ⌜ r ≡ transformed flags (now (bits .entry)) (now (recorded .entry)) expected ⌝ }
+{
     set_table(table, bits);
     set_pattern(words, PATTERN);
-    set_pattern(left, PATTERN);
-    set_words(&mut left[0..count], recorded);
+    padded::set_words(left, recorded);
     transforms_to(flags, table, words, expected, left)
 }
 
@@ -48,20 +47,14 @@ fn is_restored(
     entries: &mut [u64],
     left: &mut [u64],
     expected: Outcome,
-) -> bool {
-    let needed = sizes::words(flags);
-    let count = sizes::entries(flags);
-    if needed + 3 > words.len() || count + 3 > entries.len() || count + 3 > left.len() {
-        return false;
-    }
-    let words = &mut words[0..needed + 3];
-    let entries = &mut entries[0..count + 3];
-    let left = &mut left[0..count + 3];
-    set_pattern(words, PATTERN);
-    set_words(&mut words[0..needed], recorded);
+) -> bool
+    requires { ⌜ (length (now words) ≡ wordsOf flags + 3) × (length (now entries) ≡ entriesOf flags + 3)
+        × (length (now left) ≡ entriesOf flags + 3) × (wordsOf flags ≤ 2 ^ 10) ⌝ }
+    ensures { λ r. ⌜ r ≡ restored flags (now (bits .entry)) (now (recorded .entry)) expected ⌝ }
+{
+    padded::set_words(words, recorded);
     set_pattern(entries, PATTERN);
-    set_pattern(left, PATTERN);
-    set_bits(&mut left[0..count], bits);
+    padded::set_bits(left, bits);
     goes_back_to(flags, words, entries, expected, left)
 }
 
@@ -76,9 +69,32 @@ pub fn agrees(
     entries: &mut [u64],
     left: &mut [u64],
     expected: Outcome,
-) -> bool {
+) -> bool
+    requires { ⌜ (2 ^ 16 ≤ length (now table)) × (2 ^ 10 + 3 ≤ length (now words)) × (2 ^ 16 + 3 ≤ length (now entries))
+        × (2 ^ 16 + 3 ≤ length (now left)) ⌝ }
+    ensures { λ r. ⌜ r ≡ agreed way flags (now (bits .entry)) (now (recorded .entry)) expected ⌝ }
+{
+    let settings = sizes::entries(flags);
+    let count = sizes::words(flags);
+    let words = &mut words[0..count + 3];
     match way {
-        Way::There => is_transformed(flags, bits, recorded, table, words, left, expected),
-        Way::Back => is_restored(flags, bits, recorded, words, entries, left, expected),
+        Way::There => is_transformed(
+            flags,
+            bits,
+            recorded,
+            &mut table[0..settings],
+            words,
+            &mut left[0..count + 3],
+            expected,
+        ),
+        Way::Back => is_restored(
+            flags,
+            bits,
+            recorded,
+            words,
+            &mut entries[0..settings + 3],
+            &mut left[0..settings + 3],
+            expected,
+        ),
     }
 }

@@ -1,17 +1,18 @@
--- `replay_expressions::listings::lists_as` meets its contract: the answer and the buffer that it compares are the call's.
+-- `replay_expressions::listings::lists_as` meets its contract: the answer is the call's on paper, and so is the buffer that is left.
+use mathlib.Core.Path.{ap, _∙_}
 use borrow.Author.Needs.{needs}
+use Rattle.comparison.proofs.Called.{came}
+use Rattle.replay_expressions.specs.Listings.{listedOf, masksAfter}
+use Rattle.replay_expressions.proofs.Form.{listed-told}
 use Rattle.replay_expressions.proofs.listings.lists_as.Statement.{statement}
 use Rattle.replay_expressions.proofs.listings.lists_as.Tie as tie
 
 returns : tie.Need-returns
 returns c =
-    let same = c .before .before in
-    let call = same .before .before .before .before .from-anf-coeffs in
-    record {
-      answer = call .result;
-      allowed = call .ensures .0;
-      told = rw (same .is-same .ensures, same .before .told .ensures, c .are-same .ensures);
-    }
+    let said = c .before .before .before in
+    let call = said .before .before .before .from-anf-coeffs in
+    let numbers = said .told .ensures ∙ listed-told _ (call .result) ∙ ap listedOf (call .ensures .0) in
+    came listedOf masksAfter _ _ _ _ numbers (call .ensures .1) (c .before .before .is-same .ensures) (c .are-same .ensures)
 
 pub lists-as-spec : {M : Type 1} → statement M
 lists-as-spec =

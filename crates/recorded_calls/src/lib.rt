@@ -1,4 +1,5 @@
-// Each call of the library that a case can ask for, and its answer as an outcome. It rests on those calls.
+// Each call of the library that a case can ask for, and its answer as an outcome. It rests on those calls; the promises say
+// that the outcome is the call's on paper.
 use anf_form::RawCost;
 use anf_form::raw_anf_cost;
 use comparison::outcome;
@@ -21,16 +22,40 @@ use recorded::numbers::half_at;
 use recorded::numbers::word_at;
 use recorded::slices::set_table;
 use rules::Refusal;
+ghost use mathlib.Core.Option.{some};
+ghost use mathlib.Core.Path.{_≡_};
+ghost use Prim.Native.Nat.{_<_};
+ghost use Rattle.rules.specs.Calls as paper;
+ghost use Rattle.rules.specs.Outcome.{gives};
+ghost use Rattle.rules.specs.Record.{Flag};
+ghost use Rattle.expr.specs.Answers.{kindOf};
+ghost use Rattle.comparison.specs.Outcome.{refusal as refusalOf};
+ghost use Rattle.recorded_calls.specs.Answers.{codeOf, readOf, numberOf, costedOf, examined, rawCosted, chosen, preferred};
 
-fn refused(refusal: Refusal) -> Outcome {
+fn refused(refusal: Refusal) -> Outcome
+    ensures { λ r. ⌜ r ≡ refusalOf (refusal .number) (refusal .place) ⌝ }
+{
     outcome::refused(refusal.number, refusal.place)
 }
 
+// A flag by the number that the files have for it. They have eight, so that any other takes a number that no file has.
+fn flag_code(index: usize) -> usize
+    requires { ⌜ index < 256 ⌝ }
+    ensures { λ r. ⌜ r ≡ codeOf (Flag index) ⌝ }
+{
+    if index < 8 {
+        return 2 + index;
+    }
+    256 + index
+}
+
 // A record by the number that the files have for it.
-fn code(kind: Kind) -> usize {
+fn code(kind: Kind) -> usize
+    ensures { λ r. ⌜ r ≡ codeOf (kindOf kind) ⌝ }
+{
     match kind {
         Kind::Constant(value) => value as usize,
-        Kind::Variable(index) => 2 + (index as usize),
+        Kind::Variable(index) => flag_code(index as usize),
         Kind::And => 10,
         Kind::Or => 11,
         Kind::Xor => 12,
@@ -38,12 +63,16 @@ fn code(kind: Kind) -> usize {
     }
 }
 
-fn found(node: Node) -> Outcome {
+fn found(node: Node) -> Outcome
+    ensures { λ r. ⌜ r ≡ readOf (gives (some (record { kind = kindOf (node .kind); next = node .next }))) ⌝ }
+{
     let kind = node.kind;
     given(code(kind), node.next, 0, 0)
 }
 
-pub fn reading(flags: usize, bytes: &[u8], place: usize) -> Outcome {
+pub fn reading(flags: usize, bytes: &[u8], place: usize) -> Outcome
+    ensures { λ r. ⌜ r ≡ readOf (paper.read flags (now (bytes .entry)) place) ⌝ }
+{
     let answer = expr::read(flags, bytes, place);
     match answer {
         Reading::Found(node) => found(node),
@@ -52,7 +81,9 @@ pub fn reading(flags: usize, bytes: &[u8], place: usize) -> Outcome {
     }
 }
 
-pub fn evaluation(flags: usize, bytes: &[u8], setting: usize) -> Outcome {
+pub fn evaluation(flags: usize, bytes: &[u8], setting: usize) -> Outcome
+    ensures { λ r. ⌜ r ≡ numberOf (paper.evaluate flags (now (bytes .entry)) setting) ⌝ }
+{
     let answer = evaluate(flags, bytes, setting);
     match answer {
         Evaluation::Value(value) => given(value as usize, 0, 0, 0),
@@ -60,7 +91,9 @@ pub fn evaluation(flags: usize, bytes: &[u8], setting: usize) -> Outcome {
     }
 }
 
-pub fn costing(flags: usize, bytes: &[u8]) -> Outcome {
+pub fn costing(flags: usize, bytes: &[u8]) -> Outcome
+    ensures { λ r. ⌜ r ≡ costedOf (paper.costing flags (now (bytes .entry))) ⌝ }
+{
     let answer = compute_cost(flags, bytes);
     match answer {
         Costing::Known(costs) => given(costs.cost, costs.size, costs.depth, 0),
@@ -69,7 +102,9 @@ pub fn costing(flags: usize, bytes: &[u8]) -> Outcome {
 }
 
 // The table has so many entries, whose lowest bits are `bits`.
-pub fn examination(flags: usize, entries: usize, bits: &[u8], bytes: &[u8]) -> Outcome {
+pub fn examination(flags: usize, entries: usize, bits: &[u8], bytes: &[u8]) -> Outcome
+    ensures { λ r. ⌜ r ≡ examined flags entries (now (bits .entry)) (now (bytes .entry)) ⌝ }
+{
     if entries > 128 {
         return damaged();
     }
@@ -83,7 +118,9 @@ pub fn examination(flags: usize, entries: usize, bits: &[u8], bytes: &[u8]) -> O
 }
 
 // So many words are lent, of which the first is `bits` and the others, which must be ignored, are not 0.
-pub fn raw_costing(flags: usize, entries: usize, bits: &[u8]) -> Outcome {
+pub fn raw_costing(flags: usize, entries: usize, bits: &[u8]) -> Outcome
+    ensures { λ r. ⌜ r ≡ rawCosted flags entries (now (bits .entry)) ⌝ }
+{
     if entries > 128 {
         return damaged();
     }
@@ -97,7 +134,9 @@ pub fn raw_costing(flags: usize, entries: usize, bits: &[u8]) -> Outcome {
 }
 
 // Which of the two is handed back: 0 for an empty slice, 1 for the first, 2 for the second, by length and bytes.
-pub fn choice<'a>(flags: usize, first: &'a [u8], second: &'a [u8]) -> Outcome {
+pub fn choice<'a>(flags: usize, first: &'a [u8], second: &'a [u8]) -> Outcome
+    ensures { λ r. ⌜ r ≡ chosen flags (now (first .entry)) (now (second .entry)) ⌝ }
+{
     let chosen = cheaper(flags, first, second);
     if chosen.len() == 0 {
         return given(0, 0, 0, 0);
@@ -113,7 +152,9 @@ pub fn choice<'a>(flags: usize, first: &'a [u8], second: &'a [u8]) -> Outcome {
 
 // Whether the second of two sizes and depths is better, as 0 or 1. The costs, by which neither must be chosen, are the
 // other's size.
-pub fn comparison(head: &[u8]) -> Outcome {
+pub fn comparison(head: &[u8]) -> Outcome
+    ensures { λ r. ⌜ r ≡ preferred (now (head .entry)) ⌝ }
+{
     let size = half_at(head, 0) as usize;
     let rival = half_at(head, 8) as usize;
     let first = Costs {

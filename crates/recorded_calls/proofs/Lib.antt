@@ -1,0 +1,4 @@
+pub mod Lent
+pub mod Chosen
+pub mod Preferred
+pub mod Injective

@@ -1,0 +1,3 @@
+pub mod Asked
+pub mod Form
+pub mod Injective
