@@ -1,18 +1,22 @@
 # What can be done here; `make` alone lists it.
 .PHONY: help test pages toolchain print_rule examine_rule console guide_rules python python_test bench compare unused
 .DEFAULT_GOAL := help
+# Two runs of rt would share one folder target/.
+.NOTPARALLEL:
 
 TABLE = 0111
 RULE = VA0 VA1 OR
+sources = crates.txt $(shell find crates -name '*.rt' -o -name '*.antt')
 have_rt = command -v rt >/dev/null || { echo "needs rt, the Rattle toolchain's command, on the PATH"; exit 1; }
 have_cc = command -v cc >/dev/null || { echo "needs cc, a C compiler, on the PATH"; exit 1; }
 cc = cc -std=c99 -Wall -Wextra -Wpedantic -Werror -Iinclude
-valgrind = $$(command -v valgrind >/dev/null && echo valgrind -q --error-exitcode=1)
+# Runs a C example, under valgrind where that is installed, and compares what it writes with its .expected file.
+example = if command -v valgrind >/dev/null; then valgrind -q --error-exitcode=1 $(1); else echo "valgrind is not installed: $(1) runs without it" >&2; $(1); fi
 
 help: ## list these commands
 	@sed -n 's/^\([a-z_]*\):[^#]*## /\1\t/p' $(MAKEFILE_LIST) | expand -t 14
 
-test: console guide_rules python_test pages ## prove every crate, try the must-fail edits, run the recorded cases and the examples; the last line counts
+test: console guide_rules python_test pages ## prove everything from nothing, try the must-fail edits, run the recorded cases and the examples
 	@rt fmt --check
 	@tools/progress all rt ci
 
@@ -22,7 +26,7 @@ pages: ## see that the CHANGELOG tells of this version, and that the README's ta
 
 toolchain: ## see that the Rattle toolchain is there, and say where it is another than the one that this was proved with
 	@$(have_rt)
-	@test "$$(rt version)" = "$$(cat TOOLCHAIN)" || echo "warning: proved with $$(cat TOOLCHAIN); this is $$(rt version), and its check decides"
+	@test "$$(rt version)" = "$$(cat TOOLCHAIN)" || echo "warning: proved with $$(cat TOOLCHAIN); this is $$(rt version), and its check decides" >&2
 
 print_rule: toolchain ## print the expression of a rule table: TABLE=0111
 	@tools/progress print_rule rt check print_rule
@@ -32,26 +36,26 @@ examine_rule: toolchain ## examine a rule against its table and say the verdict 
 	@tools/progress examine_rule rt check examine_rule
 	@printf '%s\n' '$(TABLE)' '$(RULE)' | target/bin/examine_rule
 
-console: toolchain ## build the console's library and run the C example over include/console.h, under valgrind where that is installed
+target/staticlib/lib%.a: $(sources)
+	@tools/progress $* rt staticlib $*
+
+console: toolchain target/staticlib/libconsole.a ## build the console's library and run the C example over include/console.h
 	@$(have_cc)
-	@tools/progress console rt staticlib console
 	@$(cc) examples/console.c target/staticlib/libconsole.a -o target/console
-	@$(valgrind) target/console >target/console.out
+	@$(call example,target/console) >target/console.out
 	@cmp target/console.out examples/console.expected && cat target/console.out
 
-guide_rules: toolchain ## build the whole library for C and run the C example over include/guide_rules.h, under valgrind where that is installed
+guide_rules: toolchain target/staticlib/libguide_rules.a ## build the whole library for C and run the C example over include/guide_rules.h
 	@$(have_cc)
-	@tools/progress guide_rules rt staticlib guide_rules
 	@if command -v c++ >/dev/null; then c++ -Wall -Wextra -Wpedantic -Werror -fsyntax-only -x c++ include/guide_rules.h; fi
 	@$(cc) examples/guide_rules.c target/staticlib/libguide_rules.a -o target/guide_rules
-	@$(valgrind) target/guide_rules >target/guide_rules.out
+	@$(call example,target/guide_rules) >target/guide_rules.out
 	@cmp target/guide_rules.out examples/guide_rules.expected && cat target/guide_rules.out
 
-python: toolchain ## link the shared object that python/guide_rules.py loads
+python: toolchain target/staticlib/libguide_rules.a ## link build/libguide_rules.so, which python/guide_rules.py loads
 	@$(have_cc)
-	@tools/progress guide_rules rt staticlib guide_rules
-	@mkdir -p target/python
-	@cc -shared -Wl,--whole-archive target/staticlib/libguide_rules.a -Wl,--no-whole-archive -o target/python/libguide_rules.so
+	@mkdir -p build
+	@cc -shared -Wl,--whole-archive target/staticlib/libguide_rules.a -Wl,--no-whole-archive -o build/libguide_rules.so
 
 python_test: python ## run the Python module's tests, where python3 is installed
 	@if command -v python3 >/dev/null; then python3 -B -m unittest discover -s python; fi

@@ -51,6 +51,7 @@
    Nothing is kept after the call. The caller sees to this:
    - No pointer is NULL, also where its count is 0, and behind it are as many entries as the count says.
    - `out` and `answer` overlap neither each other nor an input. Inputs may overlap.
+   `out` and `answer` need not be initialised. Calls keep nothing and may run in several threads; rule_compile takes some 10 KB of stack.
    Then, for all numbers and all contents of the arrays, the call returns and answers as told here, and:
    - Nothing is written through a pointer to const.
    - After a refusal `out` is as it was. Otherwise the result stands at its front, and what is past the result is as it was. */
@@ -126,7 +127,8 @@ uint64_t rule_listing(uint64_t flags, const uint64_t *coefficients, uint64_t wor
    Refuses by 1 (6 flags), 3, 4. Result: the cost. */
 uint64_t rule_raw_cost(uint64_t flags, const uint64_t *coefficients, uint64_t words, uint64_t *answer, uint64_t answers);
 
-/* The compiler: the table's expression by document 01's cleanup, at the front of `out`. rule_examine accepts it for this table, with this cost.
+/* The compiler: the table's expression by the cleanup (crates/rules/specs/Cleanup.antt), at the front of `out`. rule_examine accepts it for this
+   table, with this cost.
    GUIDE_RULES_BYTE_LIMIT bytes suffice.
    Refuses by 1 (6 flags), 2, 5. Results: bytes written; records; cost; raw cost. */
 uint64_t rule_compile(uint64_t flags, const uint64_t *table, uint64_t entries, uint8_t *out, uint64_t out_bytes, uint64_t *answer,

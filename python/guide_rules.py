@@ -11,9 +11,10 @@ sequence of 64-bit words, an expression is bytes or anything bytes-like. What a 
 does not fit 64 bits is a ValueError.
 
 The shared object is the file that the environment variable GUIDE_RULES_LIBRARY names, and otherwise
-target/python/libguide_rules.so, which `make python` builds. It is loaded by the first call.
+build/libguide_rules.so, which `make python` builds. It is loaded by the first call.
 """
 
+import collections.abc
 import ctypes
 import functools
 import operator
@@ -130,7 +131,7 @@ _ARGUMENTS = {
 @functools.lru_cache(maxsize=None)
 def _library() -> ctypes.CDLL:
     named = os.environ.get("GUIDE_RULES_LIBRARY")
-    path = named or str(Path(__file__).resolve().parent.parent / "target" / "python" / "libguide_rules.so")
+    path = named or str(Path(__file__).resolve().parent.parent / "build" / "libguide_rules.so")
     try:
         library = ctypes.CDLL(path)
         for name, arguments in _ARGUMENTS.items():
@@ -139,18 +140,20 @@ def _library() -> ctypes.CDLL:
             call.restype = ctypes.c_uint64
     except (OSError, AttributeError) as error:
         whose = "the library that GUIDE_RULES_LIBRARY names" if named else "the library of guide_rules"
-        raise OSError(f"{whose} cannot be loaded ({error}); `make python` builds target/python/libguide_rules.so") from error
+        raise OSError(f"{whose} cannot be loaded ({error}); `make python` builds build/libguide_rules.so") from error
     return library
 
 
 def _fitting(value: int, name: str) -> int:
     number = operator.index(value)
     if not 0 <= number < 1 << 64:
-        raise ValueError(f"{name} does not fit 64 bits: {number}")
+        raise ValueError(f"{name} does not fit 64 bits" + (f": {number}" if number.bit_length() <= 128 else ""))
     return number
 
 
 def _entries(values: Sequence[int], name: str) -> List[int]:
+    if isinstance(values, (bytes, bytearray, memoryview, collections.abc.Set, collections.abc.Mapping)):
+        raise TypeError(f"no sequence of ints: {type(values).__name__}")
     return [_fitting(value, f"{name} {i}") for i, value in enumerate(values)]
 
 
@@ -301,6 +304,8 @@ def show(expression: Expression) -> str:
 
 def parse(text: str) -> bytes:
     """The bytes of records in document 01's notation, as 'VA0 VA1 OR'; a ValueError where the text is none. It undoes show."""
+    if not isinstance(text, str):
+        raise TypeError(f"no text: {type(text).__name__}")
     found = []
     for word in text.split():
         match = re.fullmatch("(CO|VA)(0|[1-9][0-9]{0,2})|AN|OR|XO|NO", word)

@@ -1,4 +1,4 @@
--- What a call for C has to return and to store, by its outcome. It rests on the definitions of Answer and on rules' Console.
+-- What a call for C has to return and to store, by its outcome. It rests on the definitions of Numbers and on rules' Console.
 --   answer-gives       == a result: 0, and its numbers
 --   answer-refuses     == a refusal: its number, and its place alone
 --   cheaper-number     == the number of the cheaper of two, by what `compare` answers

@@ -1,3 +1,4 @@
+pub mod Rows
 pub mod Stored
 pub mod Answered
-pub mod Rows
+pub mod Injective

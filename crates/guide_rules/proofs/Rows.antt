@@ -1,4 +1,4 @@
--- Computed rows of the definitions of Answer: blocks with no room, with room for a part of an answer, for all of it and for more; and the numbers of
+-- Computed rows of the definitions of Numbers: blocks with no room, with room for a part of an answer, for all of it and for more; and the numbers of
 -- each kind of answer. They are worked by hand from the description of the calls for C (include/guide_rules.h) and from document 01's examples.
 use mathlib.Core.Bool.{true, _&&_}
 use mathlib.Core.List.{[], _∷_}
@@ -8,7 +8,7 @@ use Rattle.rules.specs.Calls.{compile, costing, read}
 use Rattle.rules.specs.Outcome.{gives}
 use Rattle.rules.proofs.Answers.{entriesOf, bytesOf}
 use Rattle.rules.proofs.Computing.{computing}
-use Rattle.guide_rules.specs.Numbers.{stored, answer, entries, listing, compilation, reading, costs, cheaper}
+use Rattle.guide_rules.specs.Numbers.{stored, answer, alone, entries, listing, compilation, reading, costs, cheaper}
 
 -- "As many of them are stored as the block has room for, and nothing else of it changes"
 pub block-rows :
@@ -24,7 +24,8 @@ block-rows = tt
 -- "the results in the order below, or after a refusal the place alone"
 pub answer-rows :
     T (
-    same (answer entries (gives (14 ∷ 7 ∷ []))) (2 ∷ [])
+    same (answer alone (gives 9)) (9 ∷ [])
+    && same (answer entries (gives (14 ∷ 7 ∷ []))) (2 ∷ [])
     && same (answer listing (gives (record { constant = true; masks = 3 ∷ 5 ∷ 6 ∷ [] }))) (1 ∷ 3 ∷ [])
     && same (answer compilation (compile 2 (entriesOf "0111") 963)) (8 ∷ 3 ∷ 3 ∷ 7 ∷ [])
     && same (answer compilation (compile 2 (entriesOf "0111") 7)) (8 ∷ [])

@@ -2,8 +2,8 @@
 -- It rests on the rows of the calls.
 --   Numbered o               == a refusal of o has a number above 0
 --   numbered-made            == so for the reading of an expression
---   numbered-evaluate        == for evaluation
---   numbered-examine         == for examination
+--   numbered-transform, numbered-wayBack, numbered-listing, numbered-rawCosting, numbered-compile      == for the calls on tables and coefficients
+--   numbered-read, numbered-evaluate, numbered-costing, numbered-examine                               == for those on expressions
 --   both-tell                == number and result together tell such an outcome
 use mathlib.Core.Bool.{Bool, true, false, not}
 use mathlib.Core.List.{List, [], _∷_}
@@ -13,10 +13,12 @@ use Prim.Native.Nat.{ℕ, zero, suc, _+_, _^_, _<_}
 use native.Mathlib.Omega.{arith}
 use lib.Dec.{ltb, leb}
 use lib.ListN.{length}
-use Rattle.rules.specs.Calls.{withTable, evaluate, judged, examine, differences, tableForm}
+use Rattle.rules.specs.Calls.{withTable, withCoefficients, withRoom, fill, transform, wayBack, listed, listing, rawCosting, compile, compiled}
+use Rattle.rules.specs.Calls.{read, parse, evaluate, costing, judged, examine, differences, tableForm}
 use Rattle.rules.specs.Console.{number, result}
 use Rattle.rules.specs.Form.{rawCost}
-use Rattle.rules.specs.Limits.{ruleFlags, recordLimit, badMark, badPayload}
+use Rattle.rules.specs.Coefficient.{wordCount, stray}
+use Rattle.rules.specs.Limits.{formFlags, ruleFlags, recordLimit, badMark, badPayload}
 use Rattle.rules.specs.Machine.{push, finish, operands, run, made}
 use Rattle.rules.specs.Outcome.{Outcome, gives, refuses, refuse, _then_}
 use Rattle.rules.specs.Record.{Kind, marked, plain, loaded, recordAt}
@@ -85,7 +87,54 @@ pub numbered-made : (n : ℕ) (s : List ℕ) → Numbered (made n s)
 unfolding made
 numbered-made n s = run-row recordLimit n s 0 []
 
+-- ---- tables, coefficients and room
+
+table-row : {A : Type 0} (limit n : ℕ) (table : List ℕ) (rest : Outcome A) → Numbered rest → Numbered (withTable limit n table rest)
+unfolding withTable
+table-row limit n table rest r =
+    by-row (ltb limit n) _ _ _ (omega arith) (by-row (not (complete n table)) _ _ _ (omega arith) r)
+
+coefficients-row : {A : Type 0} (limit n : ℕ) (ws : List ℕ) (rest : Outcome A) → Numbered rest → Numbered (withCoefficients limit n ws rest)
+unfolding withCoefficients
+coefficients-row limit n ws rest r =
+    by-row (ltb limit n) _ _ _ (omega arith)
+    (by-row (ltb (length ws) (wordCount n)) _ _ _ (omega arith) (by-row (stray n ws) _ _ _ (omega arith) r))
+
+room-row : {A : Type 0} (room : ℕ) (l : List ℕ) (rest : Outcome A) → Numbered rest → Numbered (withRoom room l rest)
+unfolding withRoom
+room-row room l rest r = by-row (ltb room (length l)) _ _ _ (omega arith) r
+
 -- ---- the calls
+
+pub numbered-transform : (n : ℕ) (table : List ℕ) (room : ℕ) → Numbered (transform n table room)
+unfolding transform fill
+numbered-transform n table room = table-row formFlags n table _ (room-row room _ _ tt)
+
+pub numbered-wayBack : (n : ℕ) (ws : List ℕ) (room : ℕ) → Numbered (wayBack n ws room)
+unfolding wayBack fill
+numbered-wayBack n ws room = coefficients-row formFlags n ws _ (room-row room _ _ tt)
+
+pub numbered-listing : (n : ℕ) (ws : List ℕ) (room : ℕ) → Numbered (listing n ws room)
+unfolding listing
+numbered-listing n ws room = coefficients-row formFlags n ws _ (room-row room _ _ tt)
+
+pub numbered-rawCosting : (n : ℕ) (ws : List ℕ) → Numbered (rawCosting n ws)
+unfolding rawCosting
+numbered-rawCosting n ws = coefficients-row ruleFlags n ws _ tt
+
+pub numbered-compile : (n : ℕ) (table : List ℕ) (room : ℕ) → Numbered (compile n table room)
+unfolding compile
+numbered-compile n table room = table-row ruleFlags n table _ (room-row room _ _ tt)
+
+pub numbered-read : (n : ℕ) (s : List ℕ) (p : ℕ) → Numbered (read n s p)
+unfolding read
+numbered-read n s p =
+    by-row (ltb ruleFlags n) _ _ _ (omega arith)
+    (by-choice (ltb p (length s)) _ _ (by-step (recordAt n s p) _ (record-row n s p) (λ r. tt)) tt)
+
+pub numbered-costing : (n : ℕ) (s : List ℕ) → Numbered (costing n s)
+unfolding costing parse
+numbered-costing n s = by-step (parse n s) _ (by-row (ltb ruleFlags n) _ _ _ (omega arith) (numbered-made n s)) (λ t. tt)
 
 pub numbered-evaluate : (n : ℕ) (s : List ℕ) (at : ℕ) → Numbered (evaluate n s at)
 unfolding evaluate
@@ -99,11 +148,10 @@ judged-row raw t (s ∷ l) = omega arith
 judged-row raw t [] = by-row (ltb raw (cost t)) _ _ _ (omega arith) tt
 
 pub numbered-examine : (n : ℕ) (table s : List ℕ) → Numbered (examine n table s)
-unfolding examine withTable
+unfolding examine
 numbered-examine n table s =
-    by-row (ltb ruleFlags n) _ _ _ (omega arith)
-    (by-row (not (complete n table)) _ _ _ (omega arith)
-    (by-step (made n s) _ (numbered-made n s) (λ t. judged-row (rawCost (tableForm n table)) t (differences n table t))))
+    table-row ruleFlags n table _
+    (by-step (made n s) _ (numbered-made n s) (λ t. judged-row (rawCost (tableForm n table)) t (differences n table t)))
 
 -- ---- the two together
 
