@@ -13,7 +13,7 @@ use Prim.Native.Nat.{ℕ, zero, suc, _+_, _^_, _<_}
 use native.Mathlib.Omega.{arith}
 use lib.Dec.{ltb, leb}
 use lib.ListN.{length}
-use Rattle.rules.specs.Calls.{withTable, withCoefficients, withRoom, fill, transform, wayBack, listed, listing, rawCosting, compile, compiled}
+use Rattle.rules.specs.Calls.{withTable, withCoefficients, withRoom, fill, transform, wayBack, listing, rawCosting, compile}
 use Rattle.rules.specs.Calls.{read, parse, evaluate, costing, judged, examine, differences, tableForm}
 use Rattle.rules.specs.Console.{number, result}
 use Rattle.rules.specs.Form.{rawCost}
