@@ -5,13 +5,17 @@
 --   constantAt s p   == the reader's answer at a record of the mark CO
 --   flagAt n s p     == the reader's answer at a record of the mark VA
 --   ended d len o    == the answer o at the end of len bytes, where d operands are left
+--   Within entries o a
+--                    == over a stack of that many entries a walk answers o; it may be full, which is none, only if it has no more entries than there
+--                       may be records
 use mathlib.Core.Bool.{Bool, true, false, not}
 use mathlib.Core.List.{List}
 use mathlib.Core.Option.{Option, none, some}
-use Prim.Native.Nat.{ℕ, _+_}
+use mathlib.Core.Path.{_≡_}
+use Prim.Native.Nat.{ℕ, _+_, _≤_}
 use lib.Dec.{eqb, leb, ltb}
 use lib.ListN.{length, getD}
-use Rattle.rules.specs.Limits.{badEnd}
+use Rattle.rules.specs.Limits.{badEnd, recordLimit}
 use Rattle.rules.specs.Outcome.{Outcome, gives, refuse, _then_}
 use Rattle.rules.specs.Record as paper
 
@@ -48,3 +52,8 @@ flagAt n s p = paper.loaded s p (ltb (getD s (p + 2) 0) n) (paper.Flag (getD s (
 -- "no bytes, or more than one operand left" is refused at the byte length
 abbrev pub ended : {A : Type 0} → ℕ → ℕ → Outcome A → Outcome A
 ended depth len o = refuse (not (eqb depth 1)) badEnd len o
+
+-- "1 to 385 records": no more operands than records stand on a stack, so one with more entries is never full
+abbrev pub Within : {A : Type 0} → ℕ → Outcome A → Option (Outcome A) → Type 0
+Within entries o (some a) = a ≡ o
+Within entries o none = entries ≤ recordLimit

@@ -93,10 +93,12 @@ pub extern "C" fn rule_cost(flags: usize, bytes: &[u8], answer: &mut [u64]) -> u
 {
     let costing = expr_cost::compute_cost(flags, bytes);
     match costing {
-        Costing::Known(costs) => {
-            let numbers = [costs.cost as u64, costs.size as u64, costs.depth as u64];
-            answer::result(answer, &numbers)
-        }
+        Costing::Known(costs) => answer::three(
+            answer,
+            costs.cost as u64,
+            costs.size as u64,
+            costs.depth as u64,
+        ),
         Costing::Refused(refusal) => answer::refusal(answer, refusal),
     }
 }

@@ -1,14 +1,14 @@
--- The lanes of one record, and the answer over a stack that may be too short, for the contracts of inner functions.
+-- The lanes of one record, and the answer over a stack that may be full, for the contracts of inner functions.
 --   filled b             == the truth value b in all lanes
 --   applied ws k x y     == the lanes of a record of kind k from those of its operands, of which it uses as many as it has
---   Within entries o a   == over a stack of that many entries, a answers o; it may be full only if it has no more entries than there may be records
+--   attemptOf a          == the answer of a walk over a lent stack, none where it is full
 use mathlib.Core.Bool.{Bool, true, false}
 use mathlib.Core.List.{List}
-use mathlib.Core.Path.{_≡_}
-use Prim.Native.Nat.{ℕ, _-_, _^_, _≤_}
+use mathlib.Core.Option.{Option, none, some}
+use Prim.Native.Nat.{ℕ, _-_, _^_}
 use lib.Bits.{bitAnd, bitOr, bitXor}
 use lib.ListN.{getD}
-use Rattle.rules.specs.Limits.{wordBits, recordLimit}
+use Rattle.rules.specs.Limits.{wordBits}
 use Rattle.rules.specs.Outcome.{Outcome}
 use Rattle.rules.specs.Record.{Kind, Constant, Flag, And, Or, Xor, Not}
 use Rattle.lanes.specs.Answers.{walkedOf}
@@ -28,6 +28,6 @@ applied ws Or x y = bitOr x y
 applied ws Xor x y = bitXor x y
 applied ws Not x y = (2 ^ wordBits - 1) - x
 
-abbrev pub Within : ℕ → Outcome Seen → Attempt → Type 0
-Within entries o (Done w) = walkedOf w ≡ o
-Within entries o Full = entries ≤ recordLimit
+abbrev pub attemptOf : Attempt → Option (Outcome Seen)
+attemptOf (Done w) = some (walkedOf w)
+attemptOf Full = none

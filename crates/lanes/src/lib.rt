@@ -14,10 +14,10 @@ ghost use Rattle.rules.specs.Limits.{ruleFlags};
 ghost use Rattle.rules.specs.Outcome.{gives};
 ghost use Rattle.rules.specs.Record.{FlagBelow};
 ghost use Rattle.expr.specs.Answers.{kindOf};
-ghost use Rattle.expr.specs.Inner.{ended};
+ghost use Rattle.expr.specs.Inner.{ended, Within};
 ghost use Rattle.lanes.specs.Lanes.{seen};
 ghost use Rattle.lanes.specs.Answers.{walkedOf};
-ghost use Rattle.lanes.specs.Inner.{Within, applied, filled};
+ghost use Rattle.lanes.specs.Inner.{attemptOf, applied, filled};
 
 // The values of an expression in all lanes, and its cost.
 pub struct Seen {
@@ -74,7 +74,7 @@ fn walk_on(
     ors: &mut [bool],
 ) -> Attempt
     requires { ⌜ (flags ≤ ruleFlags) × (flags ≤ length (now words)) × (0 < length (now stack)) × (length (now ors) ≡ length (now stack)) ⌝ }
-    ensures { λ r. ⌜ Within (length (now (stack .entry))) (seen flags (now (bytes .entry)) (now (words .entry))) r ⌝ }
+    ensures { λ r. ⌜ Within (length (now (stack .entry))) (seen flags (now (bytes .entry)) (now (words .entry))) (attemptOf r) ⌝ }
 {
     let mut depth = 0;
     let mut place = 0;

@@ -14,11 +14,8 @@ compute-cost-requires c κs = search needs
 enum-known-costing : tie.Need-enum-known-costing
 enum-known-costing c = search needs
 
-slice-aggregate-result : tie.Need-slice-aggregate-result
-slice-aggregate-result c = search needs
-
-result-requires : tie.Need-result-requires
-result-requires c κs = search needs
+three-requires : tie.Need-three-requires
+three-requires c κs = search needs
 
 enum-known-costing-2 : tie.Need-enum-known-costing-2
 enum-known-costing-2 c = search needs
@@ -31,8 +28,8 @@ same-length c = search needs
 
 returns : tie.Need-returns
 returns c =
-    let r = c .before .before .result in
-    let told = c .before .before .before .before .before .before in
+    let r = c .before .before .three in
+    let told = c .before .before .before .before .before in
     let e = sym (ap costingOf (told .costing .given .1)) ∙ told .before .before .compute-cost .ensures in
     answer-gives costs _ e (r .ensures .0) (r .ensures .1) refl
 
@@ -52,8 +49,7 @@ rule-cost-spec =
     (tie.spec
     compute-cost-requires
     enum-known-costing
-    slice-aggregate-result
-    result-requires
+    three-requires
     enum-known-costing-2
     refusal-requires
     same-length

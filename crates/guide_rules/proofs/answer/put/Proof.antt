@@ -1,0 +1,15 @@
+-- `guide_rules::answer::put` meets its contract: a store past the end changes nothing (lib.Seq).
+use mathlib.Core.Path.{sym}
+use lib.Seq.{set-out}
+use denote.Ref.{now}
+use borrow.Author.Needs.{needs}
+use Rattle.guide_rules.proofs.answer.put.Statement.{statement}
+use Rattle.guide_rules.proofs.answer.put.Tie as tie
+
+returns : tie.Need-returns
+returns c =
+    let a = c .before .args in
+    sym (set-out (now (a .block)) (a .place) (a .number) (c .if1 .taken))
+
+pub put-spec : {M : Type 1} → statement M
+put-spec = tie.close (tie.spec returns (λ c. search needs) (λ c. search needs) (λ c. search needs) (λ c. search needs))
