@@ -15,7 +15,7 @@ pub mod Below
 pub mod Every
 pub mod First
 pub mod Places
-pub mod Digits
+pub mod WordParts
 pub mod Stores
 pub mod Sets
 pub mod Union

@@ -22,7 +22,7 @@ ghost use Rattle.rules.specs.Limits.{ruleFlags};
 ghost use Rattle.rules.specs.Outcome.{gives};
 ghost use Rattle.expr.specs.Inner.{ended};
 ghost use Rattle.evaluation.specs.Answers.{evaluationOf};
-ghost use Rattle.evaluation.specs.inner.OneSetting.{evaluated, flagsOf};
+ghost use Rattle.evaluation.specs.inner.OneSetting.{evaluated, settingWords};
 
 // A stack is full where its leading one is the highest bit: no value more fits.
 const FULL: usize = 0x8000000000000000;
@@ -112,7 +112,7 @@ fn walk_lane(flags: usize, bytes: &[u8], setting: usize) -> Evaluation
 
 // A word for each flag, whose bit 0 is the setting's.
 fn flag_words(setting: usize) -> [u64; RULE_FLAGS]
-    ensures { λ r. ⌜ r ≡ flagsOf setting ⌝ }
+    ensures { λ r. ⌜ r ≡ settingWords setting ⌝ }
 {
     [
         flag(setting, 0),

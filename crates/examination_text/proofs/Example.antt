@@ -27,7 +27,7 @@ use Rattle.rules.specs.Text.{decimalTurn, decimal, firstOf, flagsOf}
 use Rattle.rules.specs.Tree.{cost, value}
 use Rattle.examination_text.specs.Input.{ofRule, ofTable, ofLines, verdictPage}
 use Rattle.examination_text.specs.Notation.{attach, split, recordTexts, isRecord, recordBytes, expression, recordOf}
-use Rattle.examination_text.specs.Verdict.{flagNames, difference, beyondLimit, aboveRaw, reason, words}
+use Rattle.examination_text.specs.Verdict.{flagNames, difference, beyondLimit, aboveRaw, reason, verdictText}
 
 pub record Case : Type 0 where
   pub input : String
@@ -37,7 +37,7 @@ pub writes : List ℕ → List ℕ → Bool
 unfolding same ascii all any keep from sum bit within places below turns fixed ones onesIn coefficient form termCost rawCost
     withTable tableForm differences judged examine binary unary push finish operands run made mark marked plain loaded recordAt
     decimalTurn decimal firstOf flagsOf cost value attach split recordTexts isRecord recordBytes expression recordOf
-    flagNames difference beyondLimit aboveRaw reason words ofRule ofTable ofLines verdictPage
+    flagNames difference beyondLimit aboveRaw reason verdictText ofRule ofTable ofLines verdictPage
 writes s out = same (verdictPage s) out
 
 pub holds : Case → Bool

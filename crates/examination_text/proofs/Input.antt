@@ -24,7 +24,7 @@ use Rattle.text.specs.TableDigits.{isDigit, values}
 use Rattle.examination_text.specs.Input.{longest, tooLong, notLines, notTable, notRule, ofRule, ofTable, ofLines, verdictPage}
 use Rattle.examination_text.specs.Notation.{attach, split, recordTexts, isRecord, expression}
 use Rattle.examination_text.specs.inner.Parts.{Part}
-use Rattle.examination_text.specs.Verdict.{words}
+use Rattle.examination_text.specs.Verdict.{verdictText}
 use Rattle.examination_text.proofs.Split.{split-first, part-last, part-more}
 
 -- ---- the input
@@ -103,7 +103,7 @@ abbrev byDigits : ℕ → List ℕ → List ℕ → Bool → List ℕ
 byDigits n one two b = elim b [ true ↦ ofRule n (values one) (recordTexts two) | false ↦ notTable ]
 
 abbrev byRecords : ℕ → List ℕ → List (List ℕ) → Bool → List ℕ
-byRecords n table ts b = elim b [ true ↦ words n table ts (examine n table (expression ts)) ++ ascii "\n" | false ↦ notRule ]
+byRecords n table ts b = elim b [ true ↦ verdictText n table ts (examine n table (expression ts)) ++ ascii "\n" | false ↦ notRule ]
 
 module _ (one two : List ℕ) where
   pub table-none : flagsOf (length one) ≡ none → ofTable one two (flagsOf (length one)) ≡ notTable
@@ -124,6 +124,6 @@ module _ (n : ℕ) (table : List ℕ) (ts : List (List ℕ)) where
   unfolding ofRule
   rule-none e = ap (byRecords n table ts) e
 
-  pub rule-verdict : all isRecord ts ≡ true → ofRule n table ts ≡ words n table ts (examine n table (expression ts)) ++ ascii "\n"
+  pub rule-verdict : all isRecord ts ≡ true → ofRule n table ts ≡ verdictText n table ts (examine n table (expression ts)) ++ ascii "\n"
   unfolding ofRule
   rule-verdict e = ap (byRecords n table ts) e

@@ -13,7 +13,7 @@ use Rattle.rules.specs.Calls.{examine}
 use Rattle.rules.specs.Text.{flagsOf}
 use Rattle.text.specs.TableDigits.{isDigit, values}
 use Rattle.examination_text.specs.Notation.{split, recordTexts, isRecord, expression}
-use Rattle.examination_text.specs.Verdict.{words}
+use Rattle.examination_text.specs.Verdict.{verdictText}
 
 abbrev pub longest : ℕ
 longest = 4095
@@ -32,7 +32,7 @@ notRule = ascii "line 2 must be records such as VA0 VA1 OR, one space between tw
 
 unfoldable pub ofRule : ℕ → List ℕ → List (List ℕ) → List ℕ
 ofRule n table ts =
-    elim (all isRecord ts) [ true ↦ words n table ts (examine n table (expression ts)) ++ ascii "\n" | false ↦ notRule ]
+    elim (all isRecord ts) [ true ↦ verdictText n table ts (examine n table (expression ts)) ++ ascii "\n" | false ↦ notRule ]
 
 unfoldable pub ofTable : List ℕ → List ℕ → Option ℕ → List ℕ
 ofTable one two none = notTable

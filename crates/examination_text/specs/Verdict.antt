@@ -1,7 +1,7 @@
 -- The examiner's verdict in words.
 --   flagNames l              == the flags l, each after a space, or that there is none
 --   reason n table ts k p    == why refusal number k with place p, for the table of n flags and the records of the texts ts
---   words n table ts o       == the verdict o
+--   verdictText n table ts o == the verdict o
 use mathlib.Core.Bool.{true, false}
 use mathlib.Core.List.{List, [], _∷_, _++_}
 use Prim.Native.Nat.{ℕ}
@@ -55,6 +55,6 @@ reason n table ts k p =
       ]
     ]
 
-unfoldable pub words : ℕ → List ℕ → List (List ℕ) → Outcome ℕ → List ℕ
-words n table ts (gives c) = ascii "accepted, cost " ++ decimal c
-words n table ts (refuses k p) = ascii "refused by row " ++ decimal k ++ ascii ": " ++ reason n table ts k p
+unfoldable pub verdictText : ℕ → List ℕ → List (List ℕ) → Outcome ℕ → List ℕ
+verdictText n table ts (gives c) = ascii "accepted, cost " ++ decimal c
+verdictText n table ts (refuses k p) = ascii "refused by row " ++ decimal k ++ ascii ": " ++ reason n table ts k p

@@ -29,7 +29,7 @@ const LONGEST: usize = 4095;
 // The page of the verdict on an expression, whose records stand in the line.
 fn verdict_page(flags: usize, table: &[u64], expression: &[u8], line: &[u8]) -> Page
     requires { ⌜ (flags ≤ ruleFlags) × (2 ^ flags ≤ length (now table)) ⌝ }
-    ensures { λ r. ⌜ Shows (Verdict.words flags (now (table .entry)) (recordTexts (now (line .entry)))
+    ensures { λ r. ⌜ Shows (Verdict.verdictText flags (now (table .entry)) (recordTexts (now (line .entry)))
         (examine flags (now (table .entry)) (now (expression .entry))) ++ ascii "\n") r ⌝ }
 {
     let answer = examiner::examine(flags, table, expression);

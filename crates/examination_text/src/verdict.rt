@@ -24,7 +24,7 @@ ghost use Rattle.examiner.specs.Answers.{examinationOf};
 ghost use Rattle.bits.specs.Stored.{Stored};
 ghost use Rattle.examination_text.specs.Notation.{recordTexts};
 ghost use Rattle.examination_text.specs.inner.Parts.{flagName};
-ghost use Rattle.examination_text.specs.Verdict.{named, flagNames, difference, reason, words};
+ghost use Rattle.examination_text.specs.Verdict.{named, flagNames, difference, reason, verdictText};
 
 // A flag after a space, where it is set.
 fn put_flag(flag: usize, setting: usize, out: &mut [u8], at: usize) -> usize
@@ -132,7 +132,7 @@ fn put_reason(
 // A refusal: its row, and the reason.
 fn put_refusal(refusal: Refusal, flags: usize, table: &[u64], line: &[u8], out: &mut [u8]) -> usize
     requires { ⌜ (flags ≤ ruleFlags) × (2 ^ flags ≤ length (now table)) × (200 ≤ length (now out)) ⌝ }
-    ensures { λ r. ⌜ Stored (words flags (now (table .entry)) (recordTexts (now (line .entry))) (refuses (refusal .number) (refusal .place))) 0 r
+    ensures { λ r. ⌜ Stored (verdictText flags (now (table .entry)) (recordTexts (now (line .entry))) (refuses (refusal .number) (refusal .place))) 0 r
         (now (out .entry)) (now (out .exit)) ⌝ }
 {
     let row = refusal.number as usize;
@@ -150,7 +150,7 @@ pub fn put_verdict(
     out: &mut [u8],
 ) -> usize
     requires { ⌜ (flags ≤ ruleFlags) × (2 ^ flags ≤ length (now table)) × (200 ≤ length (now out)) ⌝ }
-    ensures { λ r. ⌜ Stored (words flags (now (table .entry)) (recordTexts (now (line .entry))) (examinationOf answer)) 0 r
+    ensures { λ r. ⌜ Stored (verdictText flags (now (table .entry)) (recordTexts (now (line .entry))) (examinationOf answer)) 0 r
         (now (out .entry)) (now (out .exit)) ⌝ }
 {
     match answer {

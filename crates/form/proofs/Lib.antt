@@ -1,6 +1,6 @@
 pub mod Masks
 pub mod Flags
-pub mod Words
+pub mod WordOperations
 pub mod Literals
 pub mod Levels
 pub mod Injective

@@ -15,7 +15,7 @@ use Rattle.bits.proofs.Tabulated.{length-map-upto}
 use Rattle.packed_anf.proofs.Room.{wordCount-le}
 use Rattle.bits.proofs.Stores.{sets-over}
 use Rattle.bits.proofs.Tabulated.{map-upto-ext}
-use Rattle.anf_transform.proofs.Words.{packed-append, packed-take}
+use Rattle.anf_transform.proofs.WordByWord.{packed-append, packed-take}
 use Rattle.anf_transform.proofs.transform_back.Statement.{statement}
 use Rattle.anf_transform.proofs.transform_back.Tie as tie
 

@@ -10,7 +10,7 @@ use Rattle.rules.specs.Coefficient.{coefficient, packed}
 use Rattle.rules.specs.Table.{entry}
 use Rattle.laws.proofs.transform.Mobius.{coefficient-ext}
 use Rattle.laws.proofs.transform.Packed.{wordCount-pos, packed-words}
-use Rattle.anf_transform.proofs.Words.{full-words, cut-word}
+use Rattle.anf_transform.proofs.WordByWord.{full-words, cut-word}
 use Rattle.anf_transform.proofs.transform_table.Statement.{statement}
 use Rattle.anf_transform.proofs.transform_table.Tie as tie
 

@@ -1,12 +1,12 @@
 -- `evaluation::flag_words` meets its contract: word by word.
 use borrow.Author.Needs.{needs}
 use Rattle.bits.specs.Range.{from}
-use Rattle.evaluation.specs.inner.OneSetting.{flagsOf}
+use Rattle.evaluation.specs.inner.OneSetting.{settingWords}
 use Rattle.evaluation.proofs.flag_words.Statement.{statement}
 use Rattle.evaluation.proofs.flag_words.Tie as tie
 
 returns : tie.Need-returns
-unfolding flagsOf from
+unfolding settingWords from
 returns c = cc
 
 pub flag-words-spec : {M : Type 1} → statement M

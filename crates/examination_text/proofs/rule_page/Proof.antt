@@ -18,7 +18,7 @@ use Rattle.text.proofs.FlagCount.{flags-most}
 use Rattle.bits.proofs.Stored.{stored-length, stored-front}
 use Rattle.text.proofs.Shown.{shows-eq}
 use Rattle.examination_text.specs.Notation.{recordTexts, isRecord}
-use Rattle.examination_text.specs.Verdict.{words}
+use Rattle.examination_text.specs.Verdict.{verdictText}
 use Rattle.examination_text.proofs.Input.{rule-none, rule-verdict}
 use Rattle.examination_text.proofs.rule_page.Statement.{statement}
 use Rattle.examination_text.proofs.rule_page.Tie as tie
@@ -101,7 +101,7 @@ returns-2 c =
     let s = i .before .before .before .before in
     let ts = recordTexts (s .args .line .now) in
     shows-eq
-    (ap₂ (λ (table e : List ℕ). words (s .args .flags) table ts (examine (s .args .flags) table e) ++ ascii "\n")
+    (ap₂ (λ (table e : List ℕ). verdictText (s .args .flags) table ts (examine (s .args .flags) table e) ++ ascii "\n")
     (front t) (stored-front (b .put-rule .ensures))
     ∙ sym (rule-verdict (s .args .flags) (values (s .args .digits .now)) ts (good i))) (c .verdict-page .ensures)
 

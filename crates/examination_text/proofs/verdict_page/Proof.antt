@@ -12,7 +12,7 @@ use Rattle.rules.specs.Outcome.{Outcome}
 use Rattle.bits.proofs.Stored.{stored-append, stored-eq, stored-length, stored-front}
 use Rattle.text.proofs.Shown.{shows-put}
 use Rattle.examination_text.specs.Notation.{recordTexts}
-use Rattle.examination_text.specs.Verdict.{words}
+use Rattle.examination_text.specs.Verdict.{verdictText}
 use Rattle.examination_text.proofs.verdict_page.Statement.{statement}
 use Rattle.examination_text.proofs.verdict_page.Tie as tie
 
@@ -28,12 +28,12 @@ module _ (p : tie.After-put-verdict) where
 
   spoken :
       (let a = p .before .before .before .before .before .before .args in
-      said ≡ words (a .flags) (a .table .now) (recordTexts (a .line .now)) (examine (a .flags) (a .table .now) (a .expression .now)))
+      said ≡ verdictText (a .flags) (a .table .now) (recordTexts (a .line .now)) (examine (a .flags) (a .table .now) (a .expression .now)))
   spoken =
       let e = p .before .before in
       let a = e .before .before .before .before .args in
       stored-front (p .put-verdict .ensures)
-      ∙ ap (λ (o : Outcome ℕ). words (a .flags) (a .table .now) (recordTexts (a .line .now)) o) (e .examine .ensures)
+      ∙ ap (λ (o : Outcome ℕ). verdictText (a .flags) (a .table .now) (recordTexts (a .line .now)) o) (e .examine .ensures)
 
 examine-requires : tie.Need-examine-requires
 examine-requires c κs = search needs

@@ -13,7 +13,7 @@ use Rattle.rules.specs.Coefficient.{wordCount, words}
 use Rattle.rules.specs.Table.{entry}
 use Rattle.laws.proofs.transform.Packed.{length-words}
 use Rattle.bits.proofs.Stores.{front-more, front-all}
-use Rattle.anf_transform.proofs.Words.{part-fits, part-word}
+use Rattle.anf_transform.proofs.WordByWord.{part-fits, part-word}
 use Rattle.anf_transform.proofs.pack.pack.Statement.{statement}
 use Rattle.anf_transform.proofs.pack.pack.Tie as tie
 

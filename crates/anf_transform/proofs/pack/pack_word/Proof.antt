@@ -12,7 +12,7 @@ use Rattle.bits.specs.Bit.{digit}
 use Rattle.bits.specs.Range.{keep, upto}
 use Rattle.bits.specs.Word.{word}
 use Rattle.bits.proofs.Bit.{digit-bit}
-use Rattle.bits.proofs.Digits.{word-none, word-more}
+use Rattle.bits.proofs.WordParts.{word-none, word-more}
 use Rattle.rules.specs.Table.{entry}
 use Rattle.anf_transform.proofs.pack.pack_word.Statement.{statement}
 use Rattle.anf_transform.proofs.pack.pack_word.Tie as tie

@@ -12,7 +12,7 @@ use lib.Seq.{sets}
 use Rattle.bits.specs.Bit.{bit, digit}
 use Rattle.bits.specs.Range.{upto}
 use Rattle.rules.specs.Coefficient.{wordCount}
-use Rattle.anf_transform.proofs.Words.{part-fits}
+use Rattle.anf_transform.proofs.WordByWord.{part-fits}
 use Rattle.anf_transform.proofs.Unpacked.{unpacked, unpacked-none, unpacked-more, unpacked-all, getD-unpacked}
 use Rattle.anf_transform.proofs.pack.unpack.Statement.{statement}
 use Rattle.anf_transform.proofs.pack.unpack.Tie as tie

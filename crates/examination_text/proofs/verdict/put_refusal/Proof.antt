@@ -7,7 +7,7 @@ use Rattle.rules.specs.Ascii.{ascii}
 use Rattle.rules.specs.Text.{decimal}
 use Rattle.text.proofs.Decimal.{room-number, number-short}
 use Rattle.bits.proofs.Stored.{stored-append, stored-length}
-use Rattle.examination_text.specs.Verdict.{words}
+use Rattle.examination_text.specs.Verdict.{verdictText}
 use Rattle.examination_text.proofs.verdict.put_refusal.Statement.{statement}
 use Rattle.examination_text.proofs.verdict.put_refusal.Tie as tie
 
@@ -57,7 +57,7 @@ same-length : tie.Need-same-length
 same-length c = search needs
 
 returns : tie.Need-returns
-unfolding ascii words
+unfolding ascii verdictText
 returns c =
     let r = c .before .before in
     let q = r .before .before .before .before in

@@ -10,7 +10,7 @@ use Rattle.examiner.specs.declared.Examination.{Examination}
 use Rattle.text.proofs.Decimal.{room-number}
 use Rattle.bits.proofs.Stored.{stored-eq}
 use Rattle.examination_text.specs.Notation.{recordTexts}
-use Rattle.examination_text.specs.Verdict.{words}
+use Rattle.examination_text.specs.Verdict.{verdictText}
 use Rattle.examination_text.proofs.verdict.put_verdict.Statement.{statement}
 use Rattle.examination_text.proofs.verdict.put_verdict.Tie as tie
 
@@ -19,7 +19,7 @@ label = ascii "accepted, cost "
 
 -- the words of the answer
 abbrev say : tie.Start → Examination → List ℕ
-say s x = words (s .args .flags) (s .args .table .now) (recordTexts (s .args .line .now)) (examinationOf x)
+say s x = verdictText (s .args .flags) (s .args .table .now) (recordTexts (s .args .line .now)) (examinationOf x)
 
 told : (s : tie.Start) (x : Examination) → s .args .answer ≡ x → say s (s .args .answer) ≡ say s x
 told s x e = ap (say s) e
@@ -44,7 +44,7 @@ same-length : tie.Need-same-length
 same-length c = search needs
 
 returns : tie.Need-returns
-unfolding ascii words
+unfolding ascii verdictText
 returns c =
     let p = c .before .before in
     let k = p .before .before .before .before in
@@ -54,7 +54,7 @@ same-length-2 : tie.Need-same-length-2
 same-length-2 c = search needs
 
 returns-2 : tie.Need-returns-2
-unfolding words
+unfolding verdictText
 returns-2 c =
     let p = c .before .before in
     let k = p .before .before .before in

@@ -1,6 +1,6 @@
 -- `form::Form::constant` meets its contract: the word's lowest digit is its bit 0, the constant's.
 use native.Mathlib.Omega.{arith}
-use Rattle.form.proofs.Words.{constant-word}
+use Rattle.form.proofs.WordOperations.{constant-word}
 use Rattle.form.proofs.Form.constant.Statement.{statement}
 use Rattle.form.proofs.Form.constant.Tie as tie
 

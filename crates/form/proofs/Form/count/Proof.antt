@@ -2,7 +2,7 @@
 use mathlib.Core.Path.{_∙_}
 use native.Mathlib.Omega.{arith}
 use borrow.Author.Needs.{needs}
-use Rattle.form.proofs.Words.{count-word}
+use Rattle.form.proofs.WordOperations.{count-word}
 use Rattle.form.proofs.Form.count.Statement.{statement}
 use Rattle.form.proofs.Form.count.Tie as tie
 

@@ -5,7 +5,7 @@ use borrow.Author.Needs.{needs}
 use lib.Bits.{bitAnd}
 use Rattle.bits.specs.Word.{places}
 use Rattle.rules.specs.Form.{literals}
-use Rattle.form.proofs.Words.{covered-literals}
+use Rattle.form.proofs.WordOperations.{covered-literals}
 use Rattle.form.proofs.Form.covered_literals.Statement.{statement}
 use Rattle.form.proofs.Form.covered_literals.Tie as tie
 

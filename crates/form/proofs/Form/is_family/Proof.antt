@@ -7,7 +7,7 @@ use borrow.Author.Needs.{needs}
 use lib.Dec.{eqb, ltb}
 use Rattle.mask_words.specs.Lookup.{subsetWord}
 use Rattle.form.proofs.Flags.{singles-lt}
-use Rattle.form.proofs.Words.{family-word}
+use Rattle.form.proofs.WordOperations.{family-word}
 use Rattle.form.proofs.Form.is_family.Statement.{statement}
 use Rattle.form.proofs.Form.is_family.Tie as tie
 

@@ -4,7 +4,7 @@ use native.Mathlib.Omega.{arith}
 use borrow.Author.Needs.{needs}
 use lib.Count.{trailing-le}
 use lib.Dec.{lit<}
-use Rattle.form.proofs.Words.{pair-positive, pair-word}
+use Rattle.form.proofs.WordOperations.{pair-positive, pair-word}
 use Rattle.form.proofs.Form.pair.Statement.{statement}
 use Rattle.form.proofs.Form.pair.Tie as tie
 

@@ -5,7 +5,7 @@ use native.Mathlib.Omega.{arith}
 use borrow.Author.Needs.{needs}
 use lib.Bits.{bitAnd}
 use Rattle.bits.specs.Word.{places}
-use Rattle.form.proofs.Words.{stripped-word}
+use Rattle.form.proofs.WordOperations.{stripped-word}
 use Rattle.form.proofs.Form.stripped.Statement.{statement}
 use Rattle.form.proofs.Form.stripped.Tie as tie
 

@@ -4,7 +4,7 @@ use Prim.Native.Nat.{ℕ, _-_, _^_}
 use borrow.Author.Needs.{needs}
 use lib.Bits.{bitAnd}
 use Rattle.bits.specs.Word.{places}
-use Rattle.form.proofs.Words.{without-word}
+use Rattle.form.proofs.WordOperations.{without-word}
 use Rattle.form.proofs.Form.without.Statement.{statement}
 use Rattle.form.proofs.Form.without.Tie as tie
 

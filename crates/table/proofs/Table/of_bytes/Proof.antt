@@ -11,7 +11,7 @@ use Rattle.bits.specs.Bit.{digit}
 use Rattle.bits.specs.Range.{keep, upto}
 use Rattle.bits.specs.Word.{word}
 use Rattle.bits.proofs.Bit.{digit-bit}
-use Rattle.bits.proofs.Digits.{word-none, word-more}
+use Rattle.bits.proofs.WordParts.{word-none, word-more}
 use Rattle.rules.specs.Console.{entries}
 use Rattle.rules.specs.Table.{entry}
 use Rattle.table.specs.declared.Table.{Table}
