@@ -1,5 +1,5 @@
 """The time of `rt ci` by crate, as a table, from its output on standard input. After `make test`, at the top of the repository:
-python3 tools/check_times.py <target/progress.log >docs/CHECK_TIMES.md."""
+python3 tools/check_times.py <target/ci.log >docs/CHECK_TIMES.md."""
 import re
 import sys
 
