@@ -1,3 +1,4 @@
 pub mod Numbers
 pub mod Noise
 pub mod Results
+pub mod Sizes

@@ -2,6 +2,10 @@
 // then AN, OR, XO and NO; two records a byte, the earlier low. It rests on a recorded file.
 use crate::file;
 use recorded::numbers::byte_at;
+use rules::RECORD_LIMIT;
+
+// Four bits a record: the bytes of the most that an expression has.
+const CODES: usize = (RECORD_LIMIT + 1) / 2;
 
 const FIRST_LETTERS: [u8; 16] = *b"CCVVVVVVVVAOXN??";
 
@@ -37,7 +41,7 @@ fn put(code: usize, out: &mut [u8], at: usize) -> usize {
     at + 3
 }
 
-fn expand(codes: &[u8; 193], records: usize, out: &mut [u8]) -> usize {
+fn expand(codes: &[u8; CODES], records: usize, out: &mut [u8]) -> usize {
     let mut at = 0;
     let mut i = 0;
     while i < records {
@@ -50,8 +54,8 @@ fn expand(codes: &[u8; 193], records: usize, out: &mut [u8]) -> usize {
 // Reads that many records of a file and answers the length of the expression in `out`: 0, which no expression has, where
 // the file ends before.
 pub fn read(fd: i32, records: usize, out: &mut [u8]) -> usize {
-    let mut codes = [0u8; 193];
-    if records > 385 {
+    let mut codes = [0u8; CODES];
+    if records > RECORD_LIMIT {
         return 0;
     }
     let size = (records + 1) / 2;

@@ -23,7 +23,7 @@ use Rattle.comparison.specs.Outcome.{results, refusal}
 use Rattle.comparison.specs.declared.outcome.Outcome.{Outcome}
 use Rattle.recorded.specs.Numbers.{pairAt, wordAt}
 use Rattle.recorded.proofs.Part.{rest-repeated}
-use Rattle.replay.specs.Sizes.{entriesOf, wordsOf}
+use Rattle.recorded.specs.Sizes.{entriesOf, wordsOf}
 use Rattle.replay_expressions.specs.Listings.{listedOf, masksAfter, listedBy, pattern, wordsIn, masksIn}
 use Rattle.replay_expressions.specs.Listings.{refusedAs, shortRefused, listedAs, formAgrees}
 

@@ -27,7 +27,7 @@ use Rattle.comparison.specs.Called.{comesTo}
 use Rattle.comparison.specs.Outcome.{results, refusal}
 use Rattle.comparison.specs.declared.outcome.Outcome.{Outcome}
 use Rattle.recorded.specs.Numbers.{pairAt, wordAt}
-use Rattle.replay.specs.Sizes.{entriesOf, wordsOf}
+use Rattle.recorded.specs.Sizes.{entriesOf, wordsOf}
 
 abbrev pub listedOf : result.Outcome paper.Listing → Outcome
 listedOf (gives l) = results (digit (l .constant)) (length (l .masks)) 0 0

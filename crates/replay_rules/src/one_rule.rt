@@ -5,9 +5,9 @@ use crate::calls::compiles_to;
 use crate::calls::is_accepted;
 use comparison::outcome::given;
 use recorded::numbers::pair_at;
+use recorded::sizes;
 use recorded::slices::set_table;
 use replay::records;
-use replay::sizes;
 ghost use mathlib.Core.Path.{_≡_};
 ghost use Rattle.replay_rules.specs.Rule.{agree};
 

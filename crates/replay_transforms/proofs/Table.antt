@@ -17,7 +17,7 @@ use Rattle.comparison.specs.declared.outcome.Outcome.{Outcome}
 use Rattle.recorded.specs.Noise.{noisy}
 use Rattle.recorded.specs.Numbers.{bitAt, wordAt}
 use Rattle.recorded.proofs.Part.{rest-repeated}
-use Rattle.replay.specs.Sizes.{entriesOf, wordsOf}
+use Rattle.recorded.specs.Sizes.{entriesOf, wordsOf}
 use Rattle.replay_transforms.specs.Answers.{outcomeOf}
 use Rattle.replay_transforms.specs.Table.{pattern, padded, wordsIn, transformed, restored}
 

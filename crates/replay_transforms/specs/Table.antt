@@ -16,7 +16,7 @@ use Rattle.comparison.specs.Called.{comesTo}
 use Rattle.comparison.specs.declared.outcome.Outcome.{Outcome}
 use Rattle.recorded.specs.Noise.{noisy}
 use Rattle.recorded.specs.Numbers.{bitAt, wordAt}
-use Rattle.replay.specs.Sizes.{entriesOf, wordsOf}
+use Rattle.recorded.specs.Sizes.{entriesOf, wordsOf}
 use Rattle.replay_transforms.specs.Answers.{outcomeOf}
 use Rattle.replay_transforms.specs.declared.one_table.Way.{Way}
 use Rattle.replay_transforms.specs.declared.one_table.Way.the-variants.{There, Back}

@@ -8,8 +8,8 @@ use comparison::tally;
 use comparison::tally::Tally;
 use recorded::numbers::byte_at;
 use recorded::numbers::low_byte;
+use recorded::sizes;
 use replay::file;
-use replay::sizes;
 
 // How many entries the call must tell: words there, and entries back, so that the one call cannot stand for the other.
 fn told(way: Way, flags: usize) -> Outcome {

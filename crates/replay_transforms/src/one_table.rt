@@ -6,13 +6,13 @@ use crate::calls::goes_back_to;
 use crate::calls::transforms_to;
 use crate::padded;
 use comparison::outcome::Outcome;
+use recorded::sizes;
 use recorded::slices::set_pattern;
 use recorded::slices::set_table;
-use replay::sizes;
 ghost use mathlib.Core.Path.{_≡_};
 ghost use Prim.Native.Nat.{_+_, _^_, _≤_};
 ghost use lib.ListN.{length};
-ghost use Rattle.replay.specs.Sizes.{entriesOf, wordsOf};
+ghost use Rattle.recorded.specs.Sizes.{entriesOf, wordsOf};
 ghost use Rattle.replay_transforms.specs.Table.{transformed, restored, agreed};
 
 pub enum Way {

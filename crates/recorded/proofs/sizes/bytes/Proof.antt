@@ -1,10 +1,10 @@
--- `replay::sizes::bytes` meets its contract, by the test of the flag count.
+-- `recorded::sizes::bytes` meets its contract, by the test of the flag count.
 use native.Mathlib.Omega.{arith}
 use borrow.Author.Needs.{needs}
 use borrow.Author.Tests.{le-leb, lt-leb}
-use Rattle.replay.specs.Sizes.{bytesOf}
-use Rattle.replay.proofs.sizes.bytes.Statement.{statement}
-use Rattle.replay.proofs.sizes.bytes.Tie as tie
+use Rattle.recorded.specs.Sizes.{bytesOf}
+use Rattle.recorded.proofs.sizes.bytes.Statement.{statement}
+use Rattle.recorded.proofs.sizes.bytes.Tie as tie
 
 returns : tie.Need-returns
 unfolding bytesOf

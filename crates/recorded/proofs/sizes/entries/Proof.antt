@@ -1,11 +1,11 @@
--- `replay::sizes::entries` meets its contract: 16 flags have the most settings.
+-- `recorded::sizes::entries` meets its contract: 16 flags have the most settings.
 use native.Mathlib.Omega.{arith}
 use lib.Pow.{pow-mono, shl-exact}
 use borrow.Author.Needs.{needs}
 use borrow.Author.Tests.{le-leb, lt-leb}
-use Rattle.replay.specs.Sizes.{entriesOf}
-use Rattle.replay.proofs.sizes.entries.Statement.{statement}
-use Rattle.replay.proofs.sizes.entries.Tie as tie
+use Rattle.recorded.specs.Sizes.{entriesOf}
+use Rattle.recorded.proofs.sizes.entries.Statement.{statement}
+use Rattle.recorded.proofs.sizes.entries.Tie as tie
 
 returns : tie.Need-returns
 unfolding entriesOf

@@ -2,7 +2,7 @@
 // damaged file shows as a difference.
 ghost use mathlib.Core.Path.{_≡_};
 ghost use Prim.Native.Nat.{_^_, _≤_};
-ghost use Rattle.replay.specs.Sizes.{entriesOf, wordsOf, bytesOf};
+ghost use Rattle.recorded.specs.Sizes.{entriesOf, wordsOf, bytesOf};
 
 // One entry for each setting.
 pub fn entries(flags: usize) -> usize

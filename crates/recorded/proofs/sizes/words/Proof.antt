@@ -1,10 +1,10 @@
--- `replay::sizes::words` meets its contract, by the test of the flag count.
+-- `recorded::sizes::words` meets its contract, by the test of the flag count.
 use native.Mathlib.Omega.{arith}
 use borrow.Author.Needs.{needs}
 use borrow.Author.Tests.{le-leb, lt-leb}
-use Rattle.replay.specs.Sizes.{wordsOf}
-use Rattle.replay.proofs.sizes.words.Statement.{statement}
-use Rattle.replay.proofs.sizes.words.Tie as tie
+use Rattle.recorded.specs.Sizes.{wordsOf}
+use Rattle.recorded.proofs.sizes.words.Statement.{statement}
+use Rattle.recorded.proofs.sizes.words.Tie as tie
 
 returns : tie.Need-returns
 unfolding wordsOf
