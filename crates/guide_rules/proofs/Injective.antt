@@ -1,30 +1,17 @@
--- What C gets tells the outcome: the returned number and the answer, in a block that has room for it, are those of one outcome only. Of the transform,
--- the way back, the listing and the compiler the answer tells how much of the lent buffer is the result. It rests on the definitions of Numbers, and on
--- every refusal's number being above 0 (laws, Numbered).
---   answer-tells                             == number and answer tell the outcome, if the results' numbers tell the result
---   costs-injective, reading-injective       == cost, size and depth do; so do kind, payload and next place
+-- The numbers of a result tell the result; with `answer-tells` (answer_block, Injective) what C gets tells the outcome. Of the transform, the way back,
+-- the listing and the compiler the answer tells how much of the lent buffer is the result. It rests on the definitions of Numbers.
+--   costs-injective, reading-injective       == cost, size and depth tell the costs; kind, payload and next place tell the record
 use mathlib.Core.Bool.{Bool, true, false}
 use mathlib.Core.List.{List, [], _∷_}
 use mathlib.Core.Option.{Option, none, some}
-use mathlib.Core.Path.{_≡_, refl, ap, ap₂}
+use mathlib.Core.Path.{_≡_, refl, ap}
 use Prim.Native.Nat.{ℕ}
-use native.Mathlib.Omega.{arith}
 use lib.Dec.{eqb}
 use lib.ListN.{getD}
 use Rattle.bits.proofs.Injective.{told-apart}
 use Rattle.rules.specs.Calls.{Costs}
-use Rattle.rules.specs.Console.{number}
-use Rattle.rules.specs.Outcome.{Outcome, gives, refuses}
 use Rattle.rules.specs.Record.{Kind, Constant, Flag, And, Or, Xor, Not, Found}
-use Rattle.laws.proofs.calls.Numbered.{Numbered}
-use Rattle.guide_rules.specs.Numbers.{answer, kindNumber, payload, reading, costs}
-
-pub answer-tells : {A : Type 0} (f : A → List ℕ) → ((a b : A) → f a ≡ f b → a ≡ b) → (o q : Outcome A) → Numbered o → Numbered q
-    → number o ≡ number q → answer f o ≡ answer f q → o ≡ q
-answer-tells f told (gives a) (gives b) h r e s = ap gives (told a b s)
-answer-tells f told (gives a) (refuses k p) h r e s = absurd (omega (arith, r, e))
-answer-tells f told (refuses k p) (gives b) h r e s = absurd (omega (arith, h, e))
-answer-tells f told (refuses k p) (refuses j q) h r e s = ap₂ refuses e (ap (λ (l : List ℕ). getD l 0 0) s)
+use Rattle.guide_rules.specs.Numbers.{kindNumber, payload, reading, costs}
 
 abbrev costsAgain : List ℕ → Costs
 costsAgain l = record { cost = getD l 0 0; size = getD l 1 0; depth = getD l 2 0 }

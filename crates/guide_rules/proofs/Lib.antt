@@ -1,4 +1,3 @@
 pub mod Rows
-pub mod Stored
-pub mod Answered
+pub mod Cheaper
 pub mod Injective

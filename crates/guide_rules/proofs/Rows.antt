@@ -1,5 +1,5 @@
--- Computed rows of the definitions of Numbers: blocks with no room, with room for a part of an answer, for all of it and for more; and the numbers of
--- each kind of answer. They are worked by hand from the description of the calls for C (include/guide_rules.h) and from document 01's examples.
+-- Computed rows of the definitions of Numbers: the numbers of each kind of answer. They are worked by hand from the description of the calls for C
+-- (include/guide_rules.h) and from document 01's examples.
 use mathlib.Core.Bool.{true, _&&_}
 use mathlib.Core.List.{[], _∷_}
 use lib.Dec.{T, eqb}
@@ -8,29 +8,19 @@ use Rattle.rules.specs.Calls.{compile, costing, read}
 use Rattle.rules.specs.Outcome.{gives}
 use Rattle.rules.proofs.Answers.{entriesOf, bytesOf}
 use Rattle.rules.proofs.Computing.{computing}
-use Rattle.guide_rules.specs.Numbers.{stored, answer, alone, entries, listing, compilation, reading, costs, cheaper}
-
--- "As many of them are stored as the block has room for, and nothing else of it changes"
-pub block-rows :
-    T (
-    same (stored [] (1 ∷ 2 ∷ [])) []
-    && same (stored (9 ∷ []) (1 ∷ 2 ∷ [])) (1 ∷ [])
-    && same (stored (9 ∷ 8 ∷ []) (1 ∷ 2 ∷ [])) (1 ∷ 2 ∷ [])
-    && same (stored (9 ∷ 8 ∷ 7 ∷ []) (1 ∷ 2 ∷ [])) (1 ∷ 2 ∷ 7 ∷ [])
-    )
-unfolding stored same
-block-rows = tt
+use Rattle.answer_block.specs.Block.{numbers}
+use Rattle.guide_rules.specs.Numbers.{alone, entries, listing, compilation, reading, costs, cheaper}
 
 -- "the results in the order below, or after a refusal the place alone"
 pub answer-rows :
     T (
-    same (answer alone (gives 9)) (9 ∷ [])
-    && same (answer entries (gives (14 ∷ 7 ∷ []))) (2 ∷ [])
-    && same (answer listing (gives (record { constant = true; masks = 3 ∷ 5 ∷ 6 ∷ [] }))) (1 ∷ 3 ∷ [])
-    && same (answer compilation (compile 2 (entriesOf "0111") 963)) (8 ∷ 3 ∷ 3 ∷ 7 ∷ [])
-    && same (answer compilation (compile 2 (entriesOf "0111") 7)) (8 ∷ [])
-    && same (answer costs (costing 3 (bytesOf "VA0 VA1 OR VA2 OR"))) (4 ∷ 5 ∷ 3 ∷ [])
-    && same (answer costs (costing 1 (bytesOf "VA0 VA0"))) (6 ∷ [])
+    same (numbers alone (gives 9)) (9 ∷ [])
+    && same (numbers entries (gives (14 ∷ 7 ∷ []))) (2 ∷ [])
+    && same (numbers listing (gives (record { constant = true; masks = 3 ∷ 5 ∷ 6 ∷ [] }))) (1 ∷ 3 ∷ [])
+    && same (numbers compilation (compile 2 (entriesOf "0111") 963)) (8 ∷ 3 ∷ 3 ∷ 7 ∷ [])
+    && same (numbers compilation (compile 2 (entriesOf "0111") 7)) (8 ∷ [])
+    && same (numbers costs (costing 3 (bytesOf "VA0 VA1 OR VA2 OR"))) (4 ∷ 5 ∷ 3 ∷ [])
+    && same (numbers costs (costing 1 (bytesOf "VA0 VA0"))) (6 ∷ [])
     )
 unfolding computing entriesOf bytesOf
 answer-rows = tt
@@ -38,14 +28,14 @@ answer-rows = tt
 -- "kind (0 the end, 1 CO, 2 VA, 3 AN, 4 OR, 5 XO, 6 NO; at the end nothing more), payload (0 where there is none), next place"
 pub reading-rows :
     T (
-    same (answer reading (read 4 (bytesOf "CO1") 0)) (1 ∷ 1 ∷ 3 ∷ [])
-    && same (answer reading (read 4 (bytesOf "VA3") 0)) (2 ∷ 3 ∷ 3 ∷ [])
-    && same (answer reading (read 4 (bytesOf "AN OR XO NO") 0)) (3 ∷ 0 ∷ 2 ∷ [])
-    && same (answer reading (read 4 (bytesOf "AN OR XO NO") 2)) (4 ∷ 0 ∷ 4 ∷ [])
-    && same (answer reading (read 4 (bytesOf "AN OR XO NO") 4)) (5 ∷ 0 ∷ 6 ∷ [])
-    && same (answer reading (read 4 (bytesOf "AN OR XO NO") 6)) (6 ∷ 0 ∷ 8 ∷ [])
-    && same (answer reading (read 4 (bytesOf "AN OR XO NO") 8)) (0 ∷ [])
-    && same (answer reading (read 4 (bytesOf "VA4") 0)) (0 ∷ [])
+    same (numbers reading (read 4 (bytesOf "CO1") 0)) (1 ∷ 1 ∷ 3 ∷ [])
+    && same (numbers reading (read 4 (bytesOf "VA3") 0)) (2 ∷ 3 ∷ 3 ∷ [])
+    && same (numbers reading (read 4 (bytesOf "AN OR XO NO") 0)) (3 ∷ 0 ∷ 2 ∷ [])
+    && same (numbers reading (read 4 (bytesOf "AN OR XO NO") 2)) (4 ∷ 0 ∷ 4 ∷ [])
+    && same (numbers reading (read 4 (bytesOf "AN OR XO NO") 4)) (5 ∷ 0 ∷ 6 ∷ [])
+    && same (numbers reading (read 4 (bytesOf "AN OR XO NO") 6)) (6 ∷ 0 ∷ 8 ∷ [])
+    && same (numbers reading (read 4 (bytesOf "AN OR XO NO") 8)) (0 ∷ [])
+    && same (numbers reading (read 4 (bytesOf "VA4") 0)) (0 ∷ [])
     )
 unfolding computing bytesOf
 reading-rows = tt

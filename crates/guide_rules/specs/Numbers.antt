@@ -1,7 +1,4 @@
--- The calls for C on paper. Each returns the refusal's number (rules, Console) and stores its answer, as 64-bit numbers, at the front of a lent
--- block.
---   stored block l     == the block after the numbers l: "As many of them are stored as the block has room for, and nothing else of it changes"
---   answer f o         == the numbers of an outcome: f says those of a result; "after a refusal the place alone"
+-- The results of the calls for C in numbers, in the order in which they stand in the answer block (answer_block, Block).
 --   alone x            == a result that is one number
 --   entries l          == of the transform and the way back: how many entries were written
 --   listing l          == of the listing: the constant, 0 or 1, and the count of monomials
@@ -12,18 +9,10 @@
 use mathlib.Core.List.{List, [], _∷_}
 use mathlib.Core.Option.{Option, none, some}
 use Prim.Native.Nat.{ℕ}
-use lib.ListN.{length, take}
+use lib.ListN.{length}
 use Rattle.bits.specs.Bit.{digit}
 use Rattle.rules.specs.Calls.{Listing, Compilation, Costs, parse, cheaperOf}
-use Rattle.rules.specs.Outcome.{Outcome, gives, refuses, written}
 use Rattle.rules.specs.Record.{Kind, Constant, Flag, And, Or, Xor, Not, Found}
-
-unfoldable pub stored : List ℕ → List ℕ → List ℕ
-stored block l = written block (take (length block) l)
-
-abbrev pub answer : {A : Type 0} → (A → List ℕ) → Outcome A → List ℕ
-answer f (gives a) = f a
-answer f (refuses k p) = p ∷ []
 
 abbrev pub alone : ℕ → List ℕ
 alone x = x ∷ []

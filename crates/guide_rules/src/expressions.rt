@@ -1,5 +1,4 @@
 // The calls on expressions, for C: the reader, evaluation, costing, the cheaper of two and the examiner.
-use crate::answer;
 use evaluation::Evaluation;
 use examiner::Examination;
 use expr::Kind;
@@ -10,27 +9,24 @@ ghost use mathlib.Core.Path.{_≡_};
 ghost use Rattle.expr.specs.Answers.{kindOf};
 ghost use Rattle.rules.specs.Calls;
 ghost use Rattle.rules.specs.Console.{number};
+ghost use Rattle.answer_block.specs.Block.{stored, numbers};
 ghost use Rattle.guide_rules.specs.Numbers as c;
 
 // The record at a place, or the end.
 #[no_mangle]
 pub extern "C" fn rule_read(flags: usize, bytes: &[u8], place: usize, answer: &mut [u64]) -> u64
     ensures number { λ r. ⌜ r ≡ number (Calls.read flags (now (bytes .entry)) place) ⌝ }
-    ensures answer { λ _. ⌜ now (answer .exit) ≡ c.stored (now (answer .entry))
-        (c.answer c.reading (Calls.read flags (now (bytes .entry)) place)) ⌝ }
+    ensures answer { λ _. ⌜ now (answer .exit) ≡ stored (now (answer .entry))
+        (numbers c.reading (Calls.read flags (now (bytes .entry)) place)) ⌝ }
 {
     let read = expr::read(flags, bytes, place);
     match read {
         Reading::Found(node) => {
             let kind = node.kind;
-            let numbers = [kind_number(kind), payload(kind), node.next as u64];
-            answer::result(answer, &numbers)
+            answer_block::three(answer, kind_number(kind), payload(kind), node.next as u64)
         }
-        Reading::End => {
-            let numbers = [0];
-            answer::result(answer, &numbers)
-        }
-        Reading::Refused(refusal) => answer::refusal(answer, refusal),
+        Reading::End => answer_block::one(answer, 0),
+        Reading::Refused(refusal) => answer_block::refusal(answer, refusal),
     }
 }
 
@@ -71,16 +67,13 @@ pub extern "C" fn rule_evaluate(
     answer: &mut [u64],
 ) -> u64
     ensures number { λ r. ⌜ r ≡ number (Calls.evaluate flags (now (bytes .entry)) setting) ⌝ }
-    ensures answer { λ _. ⌜ now (answer .exit) ≡ c.stored (now (answer .entry))
-        (c.answer c.alone (Calls.evaluate flags (now (bytes .entry)) setting)) ⌝ }
+    ensures answer { λ _. ⌜ now (answer .exit) ≡ stored (now (answer .entry))
+        (numbers c.alone (Calls.evaluate flags (now (bytes .entry)) setting)) ⌝ }
 {
     let evaluated = evaluation::evaluate(flags, bytes, setting);
     match evaluated {
-        Evaluation::Value(value) => {
-            let numbers = [value];
-            answer::result(answer, &numbers)
-        }
-        Evaluation::Refused(refusal) => answer::refusal(answer, refusal),
+        Evaluation::Value(value) => answer_block::one(answer, value),
+        Evaluation::Refused(refusal) => answer_block::refusal(answer, refusal),
     }
 }
 
@@ -88,18 +81,18 @@ pub extern "C" fn rule_evaluate(
 #[no_mangle]
 pub extern "C" fn rule_cost(flags: usize, bytes: &[u8], answer: &mut [u64]) -> u64
     ensures number { λ r. ⌜ r ≡ number (Calls.costing flags (now (bytes .entry))) ⌝ }
-    ensures answer { λ _. ⌜ now (answer .exit) ≡ c.stored (now (answer .entry))
-        (c.answer c.costs (Calls.costing flags (now (bytes .entry)))) ⌝ }
+    ensures answer { λ _. ⌜ now (answer .exit) ≡ stored (now (answer .entry))
+        (numbers c.costs (Calls.costing flags (now (bytes .entry)))) ⌝ }
 {
     let costing = expr_cost::compute_cost(flags, bytes);
     match costing {
-        Costing::Known(costs) => answer::three(
+        Costing::Known(costs) => answer_block::three(
             answer,
             costs.cost as u64,
             costs.size as u64,
             costs.depth as u64,
         ),
-        Costing::Refused(refusal) => answer::refusal(answer, refusal),
+        Costing::Refused(refusal) => answer_block::refusal(answer, refusal),
     }
 }
 
@@ -120,15 +113,12 @@ pub extern "C" fn rule_cheaper(flags: usize, first: &[u8], second: &[u8]) -> u64
 #[no_mangle]
 pub extern "C" fn rule_examine(flags: usize, table: &[u64], bytes: &[u8], answer: &mut [u64]) -> u64
     ensures number { λ r. ⌜ r ≡ number (Calls.examine flags (now (table .entry)) (now (bytes .entry))) ⌝ }
-    ensures answer { λ _. ⌜ now (answer .exit) ≡ c.stored (now (answer .entry))
-        (c.answer c.alone (Calls.examine flags (now (table .entry)) (now (bytes .entry)))) ⌝ }
+    ensures answer { λ _. ⌜ now (answer .exit) ≡ stored (now (answer .entry))
+        (numbers c.alone (Calls.examine flags (now (table .entry)) (now (bytes .entry)))) ⌝ }
 {
     let examination = examiner::examine(flags, table, bytes);
     match examination {
-        Examination::Accepted(cost) => {
-            let numbers = [cost as u64];
-            answer::result(answer, &numbers)
-        }
-        Examination::Refused(refusal) => answer::refusal(answer, refusal),
+        Examination::Accepted(cost) => answer_block::one(answer, cost as u64),
+        Examination::Refused(refusal) => answer_block::refusal(answer, refusal),
     }
 }

@@ -7,39 +7,15 @@ use borrow.Author.Needs.{needs}
 use Rattle.laws.proofs.calls.Outcome.{length-front}
 use Rattle.compiler.specs.Answers.{compilationOf}
 use Rattle.compiler.specs.declared.Compilation.{Compilation}
+use Rattle.answer_block.proofs.Answered.{answer-gives, answer-refuses}
 use Rattle.guide_rules.specs.Numbers.{compilation}
-use Rattle.guide_rules.proofs.Answered.{answer-gives, answer-refuses}
 use Rattle.guide_rules.proofs.rule_compile.Statement.{statement}
 use Rattle.guide_rules.proofs.rule_compile.Tie as tie
 
-build-anf-expr-requires : tie.Need-build-anf-expr-requires
-build-anf-expr-requires c κs = search needs
-
-enum-known-compilation : tie.Need-enum-known-compilation
-enum-known-compilation c = search needs
-
-slice-aggregate-result : tie.Need-slice-aggregate-result
-slice-aggregate-result c = search needs
-
-result-requires : tie.Need-result-requires
-result-requires c κs = search needs
-
-enum-known-compilation-2 : tie.Need-enum-known-compilation-2
-enum-known-compilation-2 c = search needs
-
-refusal-requires : tie.Need-refusal-requires
-refusal-requires c κs = search needs
-
-same-length : tie.Need-same-length
-same-length c = search needs
-
-same-length-2 : tie.Need-same-length-2
-same-length-2 c = search needs
-
 returns : tie.Need-returns
 returns c =
-    let r = c .before .before .result in
-    let told = c .before .before .before .before .before .before in
+    let r = c .before .before .four in
+    let told = c .before .before .before .before .before in
     let call = told .before .before .before .before .build-anf-expr in
     let out = call .last .1 .1 .0 in
     let e = told .compilation .given .0 .0 in
@@ -47,12 +23,6 @@ returns c =
     let is = sym (ap (λ (q : Compilation). compilationOf out q) (told .compilation .given .1)) ∙ call .ensures .0 in
     let (number, answer) = answer-gives compilation _ is (r .ensures .0) (r .ensures .1) same in
     (number, (call .ensures .1, answer))
-
-same-length-3 : tie.Need-same-length-3
-same-length-3 c = search needs
-
-same-length-4 : tie.Need-same-length-4
-same-length-4 c = search needs
 
 returns-2 : tie.Need-returns-2
 returns-2 c =
@@ -68,15 +38,14 @@ pub rule-compile-spec : {M : Type 1} → statement M
 rule-compile-spec =
     tie.close
     (tie.spec
-    build-anf-expr-requires
-    enum-known-compilation
-    slice-aggregate-result
-    result-requires
-    enum-known-compilation-2
-    refusal-requires
-    same-length
-    same-length-2
+    (λ c κs. search needs)
+    (λ c. search needs)
+    (λ c κs. search needs)
+    (λ c. search needs)
+    (λ c κs. search needs)
+    (λ c. search needs)
+    (λ c. search needs)
     returns
-    same-length-3
-    same-length-4
+    (λ c. search needs)
+    (λ c. search needs)
     returns-2)

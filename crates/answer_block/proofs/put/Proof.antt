@@ -1,10 +1,10 @@
--- `guide_rules::answer::put` meets its contract: a store past the end changes nothing (lib.Seq).
+-- `answer_block::put` meets its contract: a store past the end changes nothing (lib.Seq).
 use mathlib.Core.Path.{sym}
 use lib.Seq.{set-out}
 use denote.Ref.{now}
 use borrow.Author.Needs.{needs}
-use Rattle.guide_rules.proofs.answer.put.Statement.{statement}
-use Rattle.guide_rules.proofs.answer.put.Tie as tie
+use Rattle.answer_block.proofs.put.Statement.{statement}
+use Rattle.answer_block.proofs.put.Tie as tie
 
 returns : tie.Need-returns
 returns c =
