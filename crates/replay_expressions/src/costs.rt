@@ -1,22 +1,16 @@
-// One expression of costs.bin: the original's cost, size and depth in the head, and the records after it. It rests on the
-// costing call.
-use comparison::outcome;
+// One expression of costs.bin, read: the head and the records after it. It rests on the comparison of recorded costs.
 use recorded::numbers::pair_at;
-use recorded::results::outcome_at;
+use recorded_cases::costs::agrees;
 use replay::records;
-ghost use mathlib.Core.Path.{_≡_};
-ghost use Rattle.replay_expressions.specs.Cases.{costsAgree};
+use rules::RECORD_LIMIT;
 
-fn agrees(head: &[u8], bytes: &[u8]) -> bool
-    ensures { λ r. ⌜ r ≡ costsAgree (now (head .entry)) (now (bytes .entry)) ⌝ }
-{
-    outcome::is_same(recorded_calls::costing(6, bytes), outcome_at(0, head, 0))
-}
+// The bytes of any expression: it has at most so many records, and a record has at most three bytes.
+pub const ROOM: usize = 3 * RECORD_LIMIT;
 
 pub fn is_same(fd: i32, head: &[u8]) -> bool {
-    let mut bytes = [0u8; 1155];
+    let mut bytes = [0u8; ROOM];
     let length = records::read(fd, pair_at(head, 6) as usize, &mut bytes);
-    if length > 1155 {
+    if length > ROOM {
         return false;
     }
     agrees(head, &bytes[0..length])

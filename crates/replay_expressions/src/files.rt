@@ -4,9 +4,9 @@ use crate::cases;
 use crate::choices;
 use crate::costs;
 use crate::listings;
-use crate::listings::Asked;
 use comparison::tally;
 use comparison::tally::Tally;
+use recorded_listings::Asked;
 use replay::file;
 
 // Those named wrong are made so by the program, in every item of a file.
