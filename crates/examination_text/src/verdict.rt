@@ -132,8 +132,8 @@ fn put_reason(
 // A refusal: its row, and the reason.
 fn put_refusal(refusal: Refusal, flags: usize, table: &[u64], line: &[u8], out: &mut [u8]) -> usize
     requires { ⌜ (flags ≤ ruleFlags) × (2 ^ flags ≤ length (now table)) × (200 ≤ length (now out)) ⌝ }
-    ensures { λ r. ⌜ Stored (verdictText flags (now (table .entry)) (recordTexts (now (line .entry))) (refuses (refusal .number) (refusal .place))) 0 r
-        (now (out .entry)) (now (out .exit)) ⌝ }
+    ensures { λ r. ⌜ Stored (verdictText flags (now (table .entry)) (recordTexts (now (line .entry))) (refuses (refusal .number) (refusal .place)))
+        0 r (now (out .entry)) (now (out .exit)) ⌝ }
 {
     let row = refusal.number as usize;
     let end = put_number(b"refused by row ", row, out, 0);

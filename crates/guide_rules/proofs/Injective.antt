@@ -1,5 +1,5 @@
--- The numbers of a result tell the result; with `answer-tells` (answer_block, Injective) what C gets tells the outcome. Of the transform, the way back,
--- the listing and the compiler the answer tells how much of the lent buffer is the result. It rests on the definitions of Numbers.
+-- The numbers of a result tell the result; with `answer-tells` (answer_block, Injective) what C gets tells the outcome. Of the transform, the way
+-- back, the listing and the compiler the answer tells how much of the lent buffer is the result. It rests on the definitions of Numbers.
 --   costs-injective, reading-injective       == cost, size and depth tell the costs; kind, payload and next place tell the record
 use mathlib.Core.Bool.{Bool, true, false}
 use mathlib.Core.List.{List, [], _∷_}

@@ -1,29 +1,30 @@
 // Calls that the compiler must refuse, with the number and the place that each must give, and the lent buffer unchanged.
 // Where several rows of the table of refusals apply, the upper one counts. The same calls with a wrong number and with a wrong
-// place, and good calls as if they were refused, show that each call is made and compared. It rests on the replay of the
-// compiler's call.
-use crate::calls::PATTERN;
-use crate::calls::compiles_to;
+// place, and good calls as if they were refused, show that each call is made and compared. It rests on the comparison of
+// the compiler's call.
 use comparison::outcome::Outcome;
 use comparison::outcome::refused;
 use comparison::tally;
 use comparison::tally::Tally;
 use recorded::numbers::low_byte;
 use recorded::slices::set_table;
+use recorded_rules::calls::PATTERN;
+use recorded_rules::calls::compiles_to;
 use replay::line;
+use rules::BYTE_LIMIT;
 
 // The first `length` entries of the table whose bits are the digits of `table`, into a buffer of `room` bytes.
 fn refusal(flags: usize, table: u64, length: usize, room: usize, expected: Outcome) -> bool {
     if length > 128 {
         return false;
     }
-    if room > 963 {
+    if room > BYTE_LIMIT {
         return false;
     }
     let mut entries = [0u64; 128];
     set_table(&mut entries, &[low_byte(table), low_byte(table / 256)]);
-    let mut out = [PATTERN; 963];
-    let left = [PATTERN; 963];
+    let mut out = [PATTERN; BYTE_LIMIT];
+    let left = [PATTERN; BYTE_LIMIT];
     compiles_to(
         flags,
         &entries[0..length],
@@ -36,13 +37,28 @@ fn refusal(flags: usize, table: u64, length: usize, room: usize, expected: Outco
 // `number` and `place` are 0, or 1 to make every number, or every place, a wrong one.
 fn arguments(before: Tally, number: u64, place: usize) -> Tally {
     let mut tally = before;
-    tally = tally::counted(tally, refusal(7, 2, 128, 963, refused(1 ^ number, place)));
+    tally = tally::counted(
+        tally,
+        refusal(7, 2, 128, BYTE_LIMIT, refused(1 ^ number, place)),
+    );
     tally = tally::counted(tally, refusal(7, 2, 0, 0, refused(1 ^ number, place)));
-    tally = tally::counted(tally, refusal(0, 0, 0, 963, refused(2 ^ number, place)));
-    tally = tally::counted(tally, refusal(1, 2, 1, 963, refused(2 ^ number, place)));
-    tally = tally::counted(tally, refusal(3, 0xE8, 7, 963, refused(2 ^ number, place)));
+    tally = tally::counted(
+        tally,
+        refusal(0, 0, 0, BYTE_LIMIT, refused(2 ^ number, place)),
+    );
+    tally = tally::counted(
+        tally,
+        refusal(1, 2, 1, BYTE_LIMIT, refused(2 ^ number, place)),
+    );
+    tally = tally::counted(
+        tally,
+        refusal(3, 0xE8, 7, BYTE_LIMIT, refused(2 ^ number, place)),
+    );
     tally = tally::counted(tally, refusal(3, 0xE8, 7, 0, refused(2 ^ number, place)));
-    tally::counted(tally, refusal(6, 2, 63, 963, refused(2 ^ number, place)))
+    tally::counted(
+        tally,
+        refusal(6, 2, 63, BYTE_LIMIT, refused(2 ^ number, place)),
+    )
 }
 
 // A buffer that lacks one byte, or all: the lengths are those of document 01's marked rows.

@@ -1,0 +1,29 @@
+-- One recorded rule, compared step by step. It rests on the definition of `agree`.
+--   agree-short   == an expression longer than the buffer does not agree
+--   agree-said    == where it fits, the two calls' comparisons with the recorded numbers decide
+use mathlib.Core.Bool.{Bool, false, _&&_}
+use mathlib.Core.List.{List}
+use mathlib.Core.Path.{_≡_}
+use Prim.Native.Nat.{ℕ, _≤_, _<_}
+use lib.ListN.{length, take, replicate}
+use borrow.Author.Tests.{le-leb, lt-leb}
+use Rattle.rules.specs.Calls.{compile, examine}
+use Rattle.rules.specs.Limits.{byteLimit}
+use Rattle.comparison.specs.Called.{comesTo}
+use Rattle.comparison.specs.Outcome.{results, sameOutcome}
+use Rattle.comparison.specs.declared.outcome.Outcome.{Outcome}
+use Rattle.recorded.specs.Numbers.{pairAt}
+use Rattle.recorded_rules.specs.Answers.{compiledOf, bytesAfter, examinedOf}
+use Rattle.recorded_rules.specs.Rule.{agree}
+
+module _ (n : ℕ) (t a l : List ℕ) (k : ℕ) where
+  pub agree-short : length l < k → agree n t a l k ≡ false
+  unfolding agree
+  agree-short h = rw (lt-leb k (length l) h)
+
+  pub agree-said : {cost raw records : ℕ} {e : Outcome} {c d : Bool} →
+      k ≤ length l → cost ≡ pairAt a 0 → raw ≡ pairAt a 2 → records ≡ pairAt a 4 → e ≡ results cost raw records k →
+      c ≡ comesTo compiledOf bytesAfter (compile n t byteLimit) (replicate byteLimit 0xA5) e l →
+      d ≡ sameOutcome (examinedOf (examine n t (take k l))) (results cost 0 0 0) → (c && d) ≡ agree n t a l k
+  unfolding agree
+  agree-said h p q s e f g = rw (le-leb k (length l) h, f, g, e, p, q, s)

@@ -1,0 +1,59 @@
+// The compiler's call with the outcome that it must have and the whole buffer that it must leave, and the examiner's with
+// the cost that it must accept. It rests on those two calls; the promises say that what is compared is the call on paper.
+use comparison::outcome;
+use comparison::outcome::Outcome;
+use compiler::Compilation;
+use compiler::build_anf_expr;
+use examiner::Examination;
+use examiner::examine;
+ghost use mathlib.Core.Path.{_≡_};
+ghost use lib.ListN.{length};
+ghost use Rattle.rules.specs.Calls as paper;
+ghost use Rattle.comparison.specs.Called.{comesTo};
+ghost use Rattle.comparison.specs.Outcome.{results, sameOutcome};
+ghost use Rattle.recorded_rules.specs.Answers.{compiledOf, compiledBy, bytesAfter, examinedOf, examinedBy};
+
+// Fills a buffer before a call, so that a change past the result, or after a refusal, shows.
+pub const PATTERN: u8 = 0xA5;
+
+// Cost, raw cost, number of records and number of bytes are the results.
+fn compiled(answer: Compilation) -> Outcome
+    ensures { λ r. ⌜ r ≡ compiledBy answer ⌝ }
+{
+    match answer {
+        Compilation::Written(rule) => {
+            outcome::given(rule.cost, rule.raw, rule.records, rule.bytes)
+        }
+        Compilation::Refused(refusal) => outcome::refused(refusal.number, refusal.place),
+    }
+}
+
+pub fn compiles_to(
+    flags: usize,
+    table: &[u64],
+    out: &mut [u8],
+    expected: Outcome,
+    left: &[u8],
+) -> bool
+    ensures { λ r. ⌜ r ≡ comesTo compiledOf bytesAfter (paper.compile flags (now (table .entry)) (length (now (out .entry))))
+        (now (out .entry)) expected (now (left .entry)) ⌝ }
+{
+    let answer = build_anf_expr(flags, table, out);
+    outcome::is_same(compiled(answer), expected) & check::same(out, left)
+}
+
+fn examined(answer: Examination) -> Outcome
+    ensures { λ r. ⌜ r ≡ examinedBy answer ⌝ }
+{
+    match answer {
+        Examination::Accepted(cost) => outcome::given(cost, 0, 0, 0),
+        Examination::Refused(refusal) => outcome::refused(refusal.number, refusal.place),
+    }
+}
+
+pub fn is_accepted(flags: usize, table: &[u64], bytes: &[u8], cost: usize) -> bool
+    ensures { λ r. ⌜ r ≡ sameOutcome (examinedOf (paper.examine flags (now (table .entry)) (now (bytes .entry)))) (results cost 0 0 0) ⌝ }
+{
+    let answer = examine(flags, table, bytes);
+    outcome::is_same(examined(answer), outcome::given(cost, 0, 0, 0))
+}
