@@ -1,11 +1,17 @@
--- Computed rows of the definitions of Block: blocks with no room, with room for a part of an answer, for all of it and for more; and the numbers of a
--- result and of a refusal. They are worked by hand from the description of the calls for C (include/guide_rules.h).
-use mathlib.Core.Bool.{_&&_}
+-- Computed rows of the definitions of Block and Numbers: blocks with no room, with room for a part of an answer, for all of it and for more; and the
+-- numbers of each kind of answer. They are worked by hand from the description of the calls for C (include/guide_rules.h) and from document 01's
+-- examples.
+use mathlib.Core.Bool.{true, _&&_}
 use mathlib.Core.List.{[], _∷_}
-use lib.Dec.{T}
+use lib.Dec.{T, eqb}
 use Rattle.bits.specs.Range.{same}
+use Rattle.rules.specs.Calls.{compile, costing, read}
+use Rattle.rules.specs.Limits.{byteLimit}
 use Rattle.rules.specs.Outcome.{gives, refuses}
+use Rattle.rules.proofs.Answers.{entriesOf, bytesOf}
+use Rattle.rules.proofs.Computing.{computing}
 use Rattle.answer_block.specs.Block.{stored, numbers}
+use Rattle.answer_block.specs.Numbers.{alone, entries, listing, compilation, reading, costs, cheaper}
 
 -- "As many of them are stored as there is room for, and nothing else of the block changes"
 pub block-rows :
@@ -19,6 +25,45 @@ unfolding stored same
 block-rows = tt
 
 -- "the call's results in the order told with it, or after a refusal the place alone"
-pub answer-rows : T (same (numbers (λ x. x ∷ 7 ∷ []) (gives 9)) (9 ∷ 7 ∷ []) && same (numbers (λ x. x ∷ 7 ∷ []) (refuses 12 3)) (3 ∷ []))
-unfolding same
+pub answer-rows :
+    T (
+    same (numbers alone (gives 9)) (9 ∷ [])
+    && same (numbers alone (refuses 12 3)) (3 ∷ [])
+    && same (numbers entries (gives (14 ∷ 7 ∷ []))) (2 ∷ [])
+    && same (numbers listing (gives (record { constant = true; masks = 3 ∷ 5 ∷ 6 ∷ [] }))) (1 ∷ 3 ∷ [])
+    && same (numbers compilation (compile 2 (entriesOf "0111") byteLimit)) (8 ∷ 3 ∷ 3 ∷ 7 ∷ [])
+    && same (numbers compilation (compile 2 (entriesOf "0111") 7)) (8 ∷ [])
+    && same (numbers costs (costing 3 (bytesOf "VA0 VA1 OR VA2 OR"))) (4 ∷ 5 ∷ 3 ∷ [])
+    && same (numbers costs (costing 1 (bytesOf "VA0 VA0"))) (6 ∷ [])
+    )
+unfolding computing entriesOf bytesOf
 answer-rows = tt
+
+-- "the kind, and nothing more at the end; the payload, 0 where there is none; the next place", and `enum guide_rules_kind`
+pub reading-rows :
+    T (
+    same (numbers reading (read 4 (bytesOf "CO1") 0)) (1 ∷ 1 ∷ 3 ∷ [])
+    && same (numbers reading (read 4 (bytesOf "VA3") 0)) (2 ∷ 3 ∷ 3 ∷ [])
+    && same (numbers reading (read 4 (bytesOf "AN OR XO NO") 0)) (3 ∷ 0 ∷ 2 ∷ [])
+    && same (numbers reading (read 4 (bytesOf "AN OR XO NO") 2)) (4 ∷ 0 ∷ 4 ∷ [])
+    && same (numbers reading (read 4 (bytesOf "AN OR XO NO") 4)) (5 ∷ 0 ∷ 6 ∷ [])
+    && same (numbers reading (read 4 (bytesOf "AN OR XO NO") 6)) (6 ∷ 0 ∷ 8 ∷ [])
+    && same (numbers reading (read 4 (bytesOf "AN OR XO NO") 8)) (0 ∷ [])
+    && same (numbers reading (read 4 (bytesOf "VA4") 0)) (0 ∷ [])
+    )
+unfolding computing bytesOf
+reading-rows = tt
+
+-- "Returns 0 where rule_cost refuses n or either expression; else 2 where the second has the smaller size, or the same size and the smaller depth; else
+-- 1"
+pub cheaper-rows :
+    T (
+    eqb (cheaper 1 (bytesOf "VA0 NO NO") (bytesOf "VA0")) 2
+    && eqb (cheaper 1 (bytesOf "VA0") (bytesOf "VA0 NO NO")) 1
+    && eqb (cheaper 1 (bytesOf "VA0") (bytesOf "CO1")) 1
+    && eqb (cheaper 1 (bytesOf "VA1") (bytesOf "CO1")) 0
+    && eqb (cheaper 1 (bytesOf "CO1") (bytesOf "VA1")) 0
+    && eqb (cheaper 7 (bytesOf "VA0") (bytesOf "VA0")) 0
+    )
+unfolding computing bytesOf cheaper
+cheaper-rows = tt

@@ -1,10 +1,14 @@
 -- A lent block that takes as much of an answer as it has room for, filled number by number. It rests on the definition of Block.
 --   stored-first     == the first number is one store
---   stored-next      == one more number is one more store, after those before it
+--   stored-more      == one more number is one more store, after those before it
+--   stored-front     == where there is room, the numbers stand at the front
+--   stored-same      == where there is room, the block tells as many numbers as were stored
+--   head-stored      == and the first of however many
 use mathlib.Core.List.{List, [], _∷_, _++_}
-use mathlib.Core.Path.{_≡_, refl, sym, ap, _∙_}
-use Prim.Native.Nat.{ℕ, suc}
-use lib.ListN.{length, take, set}
+use mathlib.Core.Path.{_≡_, refl, sym, ap, subst, _∙_}
+use Prim.Native.Nat.{ℕ, suc, _≤_, _<_}
+use native.Mathlib.Nat.{le-of-suc-le-suc, not-suc-le-zero}
+use lib.ListN.{length, take, set, getD}
 use lib.Seq.{sets}
 use Rattle.answer_block.specs.Block.{stored}
 
@@ -21,7 +25,7 @@ stored-after : (b : ℕ) (block : List ℕ) (y : ℕ) (l : List ℕ) → stored 
 unfolding stored
 stored-after b block y l = sets-after y block 0 (take (length block) l)
 
-pub stored-next : (block l : List ℕ) (x : ℕ) → set (stored block l) (length l) x ≡ stored block (l ++ (x ∷ []))
+stored-next : (block l : List ℕ) (x : ℕ) → set (stored block l) (length l) x ≡ stored block (l ++ (x ∷ []))
 unfolding stored
 stored-next [] l x = refl
 stored-next (b ∷ block) [] x = ap (λ (r : List ℕ). x ∷ r) (sym (stored-none block)) ∙ sym (stored-after b block x [])
@@ -31,3 +35,22 @@ stored-next (b ∷ block) (y ∷ l) x =
 
 pub stored-first : (block : List ℕ) (x : ℕ) → set block 0 x ≡ stored block (x ∷ [])
 stored-first block x = ap (λ (b : List ℕ). set b 0 x) (sym (stored-none block)) ∙ stored-next block [] x
+
+pub stored-more : {before after : List ℕ} (block l : List ℕ) (x : ℕ) → before ≡ stored block l → after ≡ set before (length l) x
+    → after ≡ stored block (l ++ (x ∷ []))
+stored-more block l x e f = f ∙ ap (λ (b : List ℕ). set b (length l) x) e ∙ stored-next block l x
+
+pub stored-front : (block l : List ℕ) → length l ≤ length block → take (length l) (stored block l) ≡ l
+stored-front block [] h = refl
+stored-front [] (x ∷ l) h = absurd (not-suc-le-zero h)
+stored-front (b ∷ block) (x ∷ l) h =
+    ap (take (suc (length l))) (stored-after b block x l) ∙ ap (λ (r : List ℕ). x ∷ r) (stored-front block l (le-of-suc-le-suc h))
+
+pub stored-same : (block l m : List ℕ) → length l ≡ length m → length l ≤ length block → stored block l ≡ stored block m → l ≡ m
+stored-same block l m e h s =
+    sym (stored-front block l h) ∙ ap (take (length l)) s ∙ ap (λ (k : ℕ). take k (stored block m)) e
+    ∙ stored-front block m (subst (λ (k : ℕ). k ≤ length block) e h)
+
+pub head-stored : (block : List ℕ) (x : ℕ) (l : List ℕ) → 0 < length block → getD (stored block (x ∷ l)) 0 0 ≡ x
+head-stored [] x l h = absurd (not-suc-le-zero h)
+head-stored (b ∷ block) x l h = ap (λ (r : List ℕ). getD r 0 0) (stored-after b block x l)

@@ -58,6 +58,6 @@ pub fn refusal(block: &mut [u64], refused: Refusal) -> u64
     ensures number { λ r. ⌜ r ≡ refused .number ⌝ }
     ensures answer { λ _. ⌜ now (block .exit) ≡ stored (now (block .entry)) (refused .place ∷ []) ⌝ }
 {
-    put(block, 0, refused.place as u64);
+    one(block, refused.place as u64);
     refused.number
 }

@@ -1,4 +1,3 @@
 pub mod TreeCosts
-pub mod Compared
 pub mod Depth
 pub mod Injective

@@ -1,9 +1,6 @@
--- The answer of costing on paper, and the comparison of two costs.
+-- The answer of costing on paper.
 --   costsOf c          == cost, size and depth
 --   costingOf r        == costing's answer: the costs, or a refusal
---   better c b         == by size, then depth, c is smaller than b
-use mathlib.Core.Bool.{Bool, _&&_, _||_}
-use lib.Dec.{eqb, ltb}
 use Rattle.rules.specs.Calls as paper
 use Rattle.rules.specs.Outcome.{Outcome, gives, refuses}
 use Rattle.expr_cost.specs.declared.Costs.{Costs}
@@ -17,7 +14,3 @@ costsOf c = record { cost = c .cost; size = c .size; depth = c .depth }
 abbrev pub costingOf : Costing → Outcome paper.Costs
 costingOf (Known c) = gives (costsOf c)
 costingOf (Refused r) = refuses (r .number) (r .place)
-
--- "if its (size, depth) is smaller"
-unfoldable pub better : paper.Costs → paper.Costs → Bool
-better c b = ltb (c .size) (b .size) || eqb (c .size) (b .size) && ltb (c .depth) (b .depth)

@@ -1,5 +1,5 @@
-// Costs of an expression, after `expr_cost.rs` and `anf_expr_cost`: cost, size and depth in a walk over its records, and the cheaper of two. A
-// tree's size is its number of records, and its cost is that less one for each OR whose first operand is an OR. It rests on `expr`.
+// Costs of an expression, after `expr_cost.rs` and `anf_expr_cost`: cost, size and depth in a walk over its records. A tree's size is its number of
+// records, and its cost is that less one for each OR whose first operand is an OR. It rests on `expr`.
 use expr::Kind;
 use expr::Reading;
 use rules::BAD_END;
@@ -14,14 +14,12 @@ ghost use mathlib.Core.Path.{_≡_};
 ghost use Prim.Native.Nat.{_-_, _≤_, _<_, max};
 ghost use lib.ListN.{length};
 ghost use Rattle.rules.specs.Calls;
-ghost use Rattle.rules.specs.Calls.{cheaperOf};
 ghost use Rattle.rules.specs.Limits.{ruleFlags};
 ghost use Rattle.rules.specs.Outcome.{gives};
 ghost use Rattle.expr.specs.Answers.{kindOf};
 ghost use Rattle.expr.specs.Inner.{arityOf, orOf, ended, Within};
-ghost use Rattle.expr_cost.specs.Answers.{costsOf, costingOf, better};
+ghost use Rattle.expr_cost.specs.Answers.{costingOf};
 ghost use Rattle.expr_cost.specs.Inner.{attemptOf, Ready, Stacked};
-ghost use Rattle.expr_cost.specs.Part.{emptyPart, cheaperPart};
 
 pub struct Costs {
     pub cost: usize,
@@ -213,61 +211,4 @@ fn larger(x: u16, y: u16) -> u16
         return y;
     }
     x
-}
-
-// Which of two expressions is the cheaper.
-pub enum Which {
-    First,
-    Second,
-    // The flag count or one of the two is refused.
-    Neither,
-}
-
-// The second if it is smaller by size, then depth; else the first.
-pub fn compare(flags: usize, first: &[u8], second: &[u8]) -> Which
-    ensures { λ r. ⌜ r ≡ cheaperOf Which.Neither Which.First Which.Second
-        (Calls.parse flags (now (first .entry))) (Calls.parse flags (now (second .entry))) ⌝ }
-{
-    let one = compute_cost(flags, first);
-    let Costing::Known(a) = one else {
-        return Which::Neither;
-    };
-    let other = compute_cost(flags, second);
-    let Costing::Known(b) = other else {
-        return Which::Neither;
-    };
-    if is_better(b, a) {
-        return Which::Second;
-    }
-    Which::First
-}
-
-// The slice of the cheaper one; where the flag count or either expression is refused, the empty part at the front of the first, of which only the
-// ghost name is left free.
-pub fn cheaper<'a>(flags: usize, first: &'a [u8], second: &'a [u8]) -> &'a [u8]
-    ensures { λ r. ⌜ r ≡ cheaperPart flags (first .entry) (second .entry) (r .name) ⌝ }
-{
-    let which = compare(flags, first, second);
-    match which {
-        Which::First => first,
-        Which::Second => second,
-        Which::Neither => empty(first),
-    }
-}
-
-// The part at the front of a slice that holds nothing.
-fn empty(s: &[u8]) -> &[u8]
-    ensures { λ r. ⌜ r ≡ emptyPart (s .entry) (r .name) ⌝ }
-{
-    &s[..0]
-}
-
-// Whether the candidate's size, or with equal sizes its depth, is smaller.
-pub fn is_better(candidate: Costs, baseline: Costs) -> bool
-    ensures { λ r. ⌜ r ≡ better (costsOf candidate) (costsOf baseline) ⌝ }
-{
-    if candidate.size == baseline.size {
-        return candidate.depth < baseline.depth;
-    }
-    candidate.size < baseline.size
 }

@@ -1,13 +1,13 @@
--- The number that `rule_cheaper` returns. It rests on the laws of the cheaper of two (expr_cost, Compared).
+-- The number that `rule_cheaper` returns. It rests on the laws of the cheaper of two (cheaper, Compared).
 --   cheaper-number     == the number of the cheaper of two, by what `compare` answers
 use mathlib.Core.List.{List}
 use mathlib.Core.Path.{_≡_, ap, _∙_}
 use Prim.Native.Nat.{ℕ}
 use Rattle.rules.specs.Calls.{parse, cheaperOf}
-use Rattle.expr_cost.proofs.Compared.{cheaper-map}
-use Rattle.expr_cost.specs.declared.Which.{Which}
-use Rattle.expr_cost.specs.declared.Which.the-variants.{First, Second, Neither}
-use Rattle.guide_rules.specs.Numbers.{cheaper}
+use Rattle.cheaper.proofs.Compared.{cheaper-map}
+use Rattle.cheaper.specs.declared.Which.{Which}
+use Rattle.cheaper.specs.declared.Which.the-variants.{First, Second, Neither}
+use Rattle.answer_block.specs.Numbers.{cheaper}
 
 abbrev numbered : Which → ℕ
 numbered Neither = 0

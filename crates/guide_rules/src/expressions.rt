@@ -1,16 +1,16 @@
-// The calls on expressions, for C: the reader, evaluation, costing, the cheaper of two and the examiner.
+// The calls on expressions, for C: the reader, evaluation, costing, the cheaper of two and the examiner. It rests on these and on `answer_block`.
+use cheaper::Which;
 use evaluation::Evaluation;
 use examiner::Examination;
 use expr::Kind;
 use expr::Reading;
 use expr_cost::Costing;
-use expr_cost::Which;
 ghost use mathlib.Core.Path.{_≡_};
 ghost use Rattle.expr.specs.Answers.{kindOf};
 ghost use Rattle.rules.specs.Calls;
 ghost use Rattle.rules.specs.Console.{number};
 ghost use Rattle.answer_block.specs.Block.{stored, numbers};
-ghost use Rattle.guide_rules.specs.Numbers as c;
+ghost use Rattle.answer_block.specs.Numbers as c;
 
 // The record at a place, or the end.
 #[no_mangle]
@@ -101,7 +101,7 @@ pub extern "C" fn rule_cost(flags: usize, bytes: &[u8], answer: &mut [u64]) -> u
 pub extern "C" fn rule_cheaper(flags: usize, first: &[u8], second: &[u8]) -> u64
     ensures { λ r. ⌜ r ≡ c.cheaper flags (now (first .entry)) (now (second .entry)) ⌝ }
 {
-    let which = expr_cost::compare(flags, first, second);
+    let which = cheaper::compare(flags, first, second);
     match which {
         Which::First => 1,
         Which::Second => 2,

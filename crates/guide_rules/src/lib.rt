@@ -1,6 +1,6 @@
 // The whole library for C: every call of document 01 as one function. It returns the refusal's number, 0 for none, and stores the answer at the
-// front of a lent block of 64-bit numbers: the results, or after a refusal the place alone. `include/guide_rules.h` declares the calls. Here are
-// those on tables and coefficients, in `expressions` those on expressions.
+// front of a lent block of 64-bit numbers: the results, or after a refusal the place alone. `include/guide_rules.h` declares the calls. It rests
+// on them and on `answer_block`. Here are those on tables and coefficients, in `expressions` those on expressions.
 mod expressions;
 
 use anf_form::Listing;
@@ -14,7 +14,7 @@ ghost use Rattle.rules.specs.Calls;
 ghost use Rattle.rules.specs.Console.{number};
 ghost use Rattle.rules.specs.Outcome.{left, gives, _then_};
 ghost use Rattle.answer_block.specs.Block.{stored, numbers};
-ghost use Rattle.guide_rules.specs.Numbers as c;
+ghost use Rattle.answer_block.specs.Numbers as c;
 
 // The coefficient words of a table, at the front of `out`.
 #[no_mangle]

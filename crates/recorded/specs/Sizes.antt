@@ -5,9 +5,10 @@
 use mathlib.Core.Bool.{true, false}
 use Prim.Native.Nat.{ℕ, _/_, _^_}
 use lib.Dec.{leb}
+use Rattle.rules.specs.Limits.{formFlags}
 
 unfoldable pub entriesOf : ℕ → ℕ
-entriesOf n = elim (leb n 16) [ true ↦ 2 ^ n | false ↦ 0 ]
+entriesOf n = elim (leb n formFlags) [ true ↦ 2 ^ n | false ↦ 0 ]
 
 unfoldable pub wordsOf : ℕ → ℕ
 wordsOf n = elim (leb n 6) [ true ↦ 1 | false ↦ entriesOf n / 64 ]

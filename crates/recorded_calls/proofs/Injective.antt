@@ -11,32 +11,32 @@ use lib.Dec.{eqb, ltb}
 use borrow.Author.Tests.{lt-ltb, le-ltb, ne-eqb}
 use Rattle.bits.proofs.Injective.{told-apart}
 use Rattle.rules.specs.Calls.{Costs}
-use Rattle.rules.specs.Outcome as paper
+use Rattle.rules.specs.Outcome as result
 use Rattle.rules.specs.Outcome.{gives, refuses}
 use Rattle.rules.specs.Record.{Kind, Found, Constant, Flag, And, Or, Xor, Not}
 use Rattle.comparison.specs.declared.outcome.Outcome.{Outcome}
 use Rattle.recorded_calls.specs.Answers.{codeOf, readOf, numberOf, costedOf}
 
-abbrev number : Bool → Outcome → paper.Outcome ℕ
+abbrev number : Bool → Outcome → result.Outcome ℕ
 number true o = refuses (o .number) (o .first)
 number false o = gives (o .first)
 
-number-of : (o : paper.Outcome ℕ) → number (numberOf o .refused) (numberOf o) ≡ o
+number-of : (o : result.Outcome ℕ) → number (numberOf o .refused) (numberOf o) ≡ o
 number-of (gives x) = refl
 number-of (refuses k p) = refl
 
-pub numberOf-injective : (o q : paper.Outcome ℕ) → numberOf o ≡ numberOf q → o ≡ q
+pub numberOf-injective : (o q : result.Outcome ℕ) → numberOf o ≡ numberOf q → o ≡ q
 numberOf-injective = told-apart numberOf (λ o. number (o .refused) o) number-of
 
-abbrev costs : Bool → Outcome → paper.Outcome Costs
+abbrev costs : Bool → Outcome → result.Outcome Costs
 costs true o = refuses (o .number) (o .first)
 costs false o = gives (record { cost = o .first; size = o .second; depth = o .third })
 
-costs-of : (o : paper.Outcome Costs) → costs (costedOf o .refused) (costedOf o) ≡ o
+costs-of : (o : result.Outcome Costs) → costs (costedOf o .refused) (costedOf o) ≡ o
 costs-of (gives c) = refl
 costs-of (refuses k p) = refl
 
-pub costedOf-injective : (o q : paper.Outcome Costs) → costedOf o ≡ costedOf q → o ≡ q
+pub costedOf-injective : (o q : result.Outcome Costs) → costedOf o ≡ costedOf q → o ≡ q
 costedOf-injective = told-apart costedOf (λ o. costs (o .refused) o) costs-of
 
 -- ---- reading
@@ -99,15 +99,15 @@ not-end Or = refl
 not-end Xor = refl
 not-end Not = refl
 
-abbrev reading : Bool → Outcome → paper.Outcome (Option Found)
+abbrev reading : Bool → Outcome → result.Outcome (Option Found)
 reading true o = refuses (o .number) (o .first)
 reading false o = pick (eqb (o .first) 255) (gives none) (gives (some (record { kind = kind (o .first); next = o .second })))
 
-reading-of : (o : paper.Outcome (Option Found)) → reading (readOf o .refused) (readOf o) ≡ o
+reading-of : (o : result.Outcome (Option Found)) → reading (readOf o .refused) (readOf o) ≡ o
 reading-of (gives (some r)) =
     rw (not-end (r .kind)) (ap (λ (k : Kind). gives (some (record { kind = k; next = r .next }))) (kind-of (r .kind)))
 reading-of (gives none) = refl
 reading-of (refuses k p) = refl
 
-pub readOf-injective : (o q : paper.Outcome (Option Found)) → readOf o ≡ readOf q → o ≡ q
+pub readOf-injective : (o q : result.Outcome (Option Found)) → readOf o ≡ readOf q → o ≡ q
 readOf-injective = told-apart readOf (λ o. reading (o .refused) o) reading-of

@@ -1,4 +1,4 @@
--- The test of the better of two recorded sizes and depths. It rests on the definition of `better` (expr_cost, Answers), which asks no cost.
+-- The test of the better of two recorded sizes and depths. It rests on the definition of `better` (cheaper, Better), which asks no cost.
 --   preferred-said   == what the test told of the numbers in a head
 use mathlib.Core.Bool.{Bool}
 use mathlib.Core.List.{List}
@@ -8,7 +8,7 @@ use mir.Val.{boolByte}
 use Rattle.bits.specs.Bit.{digit}
 use Rattle.bits.proofs.Bit.{byte-digit}
 use Rattle.rules.specs.Calls.{Costs}
-use Rattle.expr_cost.specs.Answers.{better}
+use Rattle.cheaper.specs.Better.{better}
 use Rattle.comparison.specs.Outcome.{results}
 use Rattle.recorded.specs.Numbers.{halfAt}
 use Rattle.recorded_calls.specs.Answers.{preferred}

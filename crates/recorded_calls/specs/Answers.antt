@@ -19,10 +19,10 @@ use lib.ListN.{take, replicate}
 use Rattle.bits.specs.Bit.{digit}
 use Rattle.bits.specs.Range.{upto}
 use Rattle.rules.specs.Calls.{Costs, parse, cheaperOf, examine, rawCosting}
-use Rattle.rules.specs.Outcome as paper
+use Rattle.rules.specs.Outcome as result
 use Rattle.rules.specs.Outcome.{gives, refuses}
 use Rattle.rules.specs.Record.{Kind, Found, Constant, Flag, And, Or, Xor, Not}
-use Rattle.expr_cost.specs.Answers.{better}
+use Rattle.cheaper.specs.Better.{better}
 use Rattle.comparison.specs.Outcome.{results, refusal}
 use Rattle.comparison.specs.declared.outcome.Outcome.{Outcome}
 use Rattle.recorded.specs.Noise.{noisy}
@@ -39,16 +39,16 @@ codeOf Or = 11
 codeOf Xor = 12
 codeOf Not = 13
 
-abbrev pub readOf : paper.Outcome (Option Found) → Outcome
+abbrev pub readOf : result.Outcome (Option Found) → Outcome
 readOf (gives (some r)) = results (codeOf (r .kind)) (r .next) 0 0
 readOf (gives none) = results 255 0 0 0
 readOf (refuses k p) = refusal k p
 
-abbrev pub numberOf : paper.Outcome ℕ → Outcome
+abbrev pub numberOf : result.Outcome ℕ → Outcome
 numberOf (gives x) = results x 0 0 0
 numberOf (refuses k p) = refusal k p
 
-abbrev pub costedOf : paper.Outcome Costs → Outcome
+abbrev pub costedOf : result.Outcome Costs → Outcome
 costedOf (gives c) = results (c .cost) (c .size) (c .depth) 0
 costedOf (refuses k p) = refusal k p
 

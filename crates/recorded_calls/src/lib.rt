@@ -2,6 +2,8 @@
 // that the outcome is the call's on paper.
 use anf_form::RawCost;
 use anf_form::raw_anf_cost;
+use cheaper::cheaper;
+use cheaper::is_better;
 use comparison::outcome;
 use comparison::outcome::Outcome;
 use comparison::outcome::damaged;
@@ -15,9 +17,7 @@ use expr::Node;
 use expr::Reading;
 use expr_cost::Costing;
 use expr_cost::Costs;
-use expr_cost::cheaper;
 use expr_cost::compute_cost;
-use expr_cost::is_better;
 use recorded::numbers::half_at;
 use recorded::numbers::word_at;
 use recorded::slices::set_table;

@@ -1,4 +1,4 @@
--- The replay of a form, compared step by step. It rests on the definitions of specs/Listings and on parts of lists (recorded, Part).
+-- The comparison of a recorded form, step by step. It rests on the definitions of specs/Listings and on parts of lists (recorded, Part).
 --   listed-told                  == an answer in numbers is the outcome that it tells
 --   refused-said                 == what the listing into a buffer of the pattern told and left, compared with a refusal
 --   short-none, short-said       == a form with fewer monomials than the buffer is to lack, and one with as many
@@ -24,7 +24,7 @@ use Rattle.comparison.specs.declared.outcome.Outcome.{Outcome}
 use Rattle.recorded.specs.Numbers.{pairAt, wordAt}
 use Rattle.recorded.proofs.Part.{rest-repeated}
 use Rattle.recorded.specs.Sizes.{entriesOf, wordsOf}
-use Rattle.recorded_listings.specs.Listings.{listedOf, masksAfter, listedBy, pattern, wordsIn, masksIn}
+use Rattle.recorded_listings.specs.Listings.{listedOf, masksAfter, listedBy, pattern, lentWords, masksIn}
 use Rattle.recorded_listings.specs.Listings.{refusedAs, shortRefused, listedAs, formAgrees}
 
 pub listed-told : (out : List ℕ) (a : Listing) → listedBy a ≡ listedOf (listingOf out a)
@@ -75,7 +75,7 @@ unfolding formAgrees
 agrees-said n w h m f d p q u x y z = rw (x, y, z, u, p, q)
 
 pub words-set : (n : ℕ) (c : List ℕ) {k j : ℕ} {l s : List ℕ} → k ≡ wordsOf n → k ≤ 1027 → j ≡ k → l ≡ replicate 1027 (2 ^ 64 - 1) →
-    s ≡ map (λ i. wordAt c (8 * i)) (upto j) → s ++ drop (k - 0) l ≡ wordsIn n c
+    s ≡ map (λ i. wordAt c (8 * i)) (upto j) → s ++ drop (k - 0) l ≡ lentWords n c
 words-set n c {k} e f g p q =
     ap₂ _++_ (q ∙ ap (λ (i : ℕ). map (λ x. wordAt c (8 * x)) (upto i)) (g ∙ e))
     (rest-repeated f (2 ^ 64 - 1) p ∙ ap (λ (i : ℕ). replicate (1027 - i) (2 ^ 64 - 1)) e)

@@ -4,7 +4,7 @@
 --   contentsOf c           == of what was listed
 --   listedBy a             == of an answer
 --   pattern                == fills a buffer before a call
---   wordsIn n c            == the coefficients in the bytes c as words, and full words after them, 1027 in all
+--   lentWords n c          == the coefficients in the bytes c as words, and full words after them, 1027 in all
 --   masksIn k m            == the first k masks in m
 --   refusedAs n w k e      == the listing into k entries tells e and leaves them as they were
 --   shortRefused n w k d   == into d entries fewer than its k monomials it is refused by row 5; a form with fewer monomials has no such buffer
@@ -46,8 +46,8 @@ listedBy (Refused r) = refusal (r .number) (r .place)
 abbrev pub pattern : ℕ
 pattern = 0x89AB_CDEF
 
-abbrev pub wordsIn : ℕ → List ℕ → List ℕ
-wordsIn n c = map (λ i. wordAt c (8 * i)) (upto (wordsOf n)) ++ replicate (1027 - wordsOf n) (2 ^ 64 - 1)
+abbrev pub lentWords : ℕ → List ℕ → List ℕ
+lentWords n c = map (λ i. wordAt c (8 * i)) (upto (wordsOf n)) ++ replicate (1027 - wordsOf n) (2 ^ 64 - 1)
 
 abbrev pub masksIn : ℕ → List ℕ → List ℕ
 masksIn k m = map (λ i. pairAt m (2 * i)) (upto k)

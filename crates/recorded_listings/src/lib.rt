@@ -1,6 +1,7 @@
 // One form of listings.bin: the constant and the number of monomials in the head, the bytes of the coefficients, and the
 // original's list. It rests on the listing call, which is also asked to refuse the form with too many flags and in a buffer
-// that is short; the promises say that what is compared is the call on paper. Nothing here reads a file.
+// that is short; the promises say that what is compared is the call on paper. `replay_expressions` reads the file; its data
+// folder has the format.
 use anf_form::Contents;
 use anf_form::Listing;
 use anf_form::from_anf_coeffs;
@@ -19,7 +20,7 @@ ghost use Prim.Native.Nat.{_+_, _^_, _≤_};
 ghost use lib.ListN.{length, replicate};
 ghost use Rattle.rules.specs.Calls as paper;
 ghost use Rattle.comparison.specs.Called.{comesTo};
-ghost use Rattle.recorded_listings.specs.Listings.{listedOf, masksAfter, contentsOf, listedBy, pattern, wordsIn};
+ghost use Rattle.recorded_listings.specs.Listings.{listedOf, masksAfter, contentsOf, listedBy, pattern, lentWords};
 ghost use Rattle.recorded_listings.specs.Listings.{refusedAs, shortRefused, listedAs, formAgrees};
 
 // Fills the lent buffer, so that a change past the result, or after a refusal, shows.
@@ -50,8 +51,8 @@ fn lists_as(flags: usize, words: &[u64], out: &mut [u32], expected: Outcome, lef
     is_same(told(answer), expected) & masks::are_same(out, left)
 }
 
-// What a listing is asked to refuse: so many flags, and a buffer with so many entries too few. 17 and 1 are right; 16 and 0
-// ask for the refusal of a good call, which must show as a difference.
+// What a listing is asked to refuse: so many flags, and a buffer with so many entries too few. One above the limit of flags
+// and 1 are right; the limit and 0 ask for the refusal of a good call, which must show as a difference.
 pub struct Asked {
     pub flags: usize,
     pub lacking: usize,
@@ -128,7 +129,7 @@ fn agrees(flags: usize, words: &[u64; 1027], head: &[u8], masks: &[u8], asked: A
 
 // The form that the bytes have. The words after it must be ignored.
 pub fn agrees_form(flags: usize, bytes: &[u8], head: &[u8], masks: &[u8], asked: Asked) -> bool
-    ensures { λ r. ⌜ r ≡ formAgrees flags (wordsIn flags (now (bytes .entry))) (now (head .entry)) (now (masks .entry))
+    ensures { λ r. ⌜ r ≡ formAgrees flags (lentWords flags (now (bytes .entry))) (now (head .entry)) (now (masks .entry))
         (asked .flags) (asked .lacking) ⌝ }
 {
     let count = sizes::words(flags);

@@ -1,5 +1,5 @@
-// One recorded rule: its table compiled, and what was written examined against the table. It rests on the comparison of
-// the two calls. The recorded answer has the cost, the raw cost and the number of records.
+// One recorded rule: its table compiled, and the recorded expression examined against the table. It rests on the comparison
+// of the two calls. The recorded answer has the cost, the raw cost and the number of records.
 use crate::calls::PATTERN;
 use crate::calls::compiles_to;
 use crate::calls::is_accepted;

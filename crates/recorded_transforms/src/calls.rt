@@ -9,7 +9,7 @@ use comparison::words;
 ghost use mathlib.Core.Path.{_≡_};
 ghost use lib.ListN.{length};
 ghost use Rattle.rules.specs.Calls.{transform, wayBack};
-ghost use Rattle.rules.specs.Outcome as paper;
+ghost use Rattle.rules.specs.Outcome as result;
 ghost use Rattle.comparison.specs.Called.{comesTo};
 ghost use Rattle.recorded_transforms.specs.Answers.{outcomeOf, numbersOf};
 
@@ -33,7 +33,7 @@ pub fn transforms_to(
     expected: Outcome,
     left: &[u64],
 ) -> bool
-    ensures { λ r. ⌜ r ≡ comesTo outcomeOf paper.left (transform flags (now (table .entry)) (length (now (out .entry))))
+    ensures { λ r. ⌜ r ≡ comesTo outcomeOf result.left (transform flags (now (table .entry)) (length (now (out .entry))))
         (now (out .entry)) expected (now (left .entry)) ⌝ }
 {
     let answer = compute_anf(flags, table, out);
@@ -47,7 +47,7 @@ pub fn goes_back_to(
     expected: Outcome,
     left: &[u64],
 ) -> bool
-    ensures { λ r. ⌜ r ≡ comesTo outcomeOf paper.left (wayBack flags (now (coefficients .entry)) (length (now (entries .entry))))
+    ensures { λ r. ⌜ r ≡ comesTo outcomeOf result.left (wayBack flags (now (coefficients .entry)) (length (now (entries .entry))))
         (now (entries .entry)) expected (now (left .entry)) ⌝ }
 {
     let answer = compute_table(flags, coefficients, entries);

@@ -1,11 +1,14 @@
 // An expression as the recorded files hold it, four bits a record: 0 and 1 are CO 0 and CO 1, 2 to 9 are VA 0 to VA 7,
-// then AN, OR, XO and NO; two records a byte, the earlier low. It rests on a recorded file.
+// then AN, OR, XO and NO; two records a byte, the earlier low. It rests on a recorded file and on the limit of records.
 use crate::file;
 use recorded::numbers::byte_at;
 use rules::RECORD_LIMIT;
 
-// Four bits a record: the bytes of the most that an expression has.
-const CODES: usize = (RECORD_LIMIT + 1) / 2;
+// The bytes of any expression: it has at most so many records, and a record has at most three bytes.
+pub const EXPRESSION_BYTES: usize = 3 * RECORD_LIMIT;
+
+// The bytes that a file has for them, at four bits a record.
+const CODE_BYTES: usize = (RECORD_LIMIT + 1) / 2;
 
 const FIRST_LETTERS: [u8; 16] = *b"CCVVVVVVVVAOXN??";
 
@@ -29,7 +32,7 @@ fn put(code: usize, out: &mut [u8], at: usize) -> usize {
     if code >= 16 {
         return at;
     }
-    if at >= 8192 {
+    if at >= EXPRESSION_BYTES {
         return at;
     }
     store(out, at, FIRST_LETTERS[code]);
@@ -41,7 +44,7 @@ fn put(code: usize, out: &mut [u8], at: usize) -> usize {
     at + 3
 }
 
-fn expand(codes: &[u8; CODES], records: usize, out: &mut [u8]) -> usize {
+fn expand(codes: &[u8; CODE_BYTES], records: usize, out: &mut [u8]) -> usize {
     let mut at = 0;
     let mut i = 0;
     while i < records {
@@ -54,7 +57,7 @@ fn expand(codes: &[u8; CODES], records: usize, out: &mut [u8]) -> usize {
 // Reads that many records of a file and answers the length of the expression in `out`: 0, which no expression has, where
 // the file ends before.
 pub fn read(fd: i32, records: usize, out: &mut [u8]) -> usize {
-    let mut codes = [0u8; CODES];
+    let mut codes = [0u8; CODE_BYTES];
     if records > RECORD_LIMIT {
         return 0;
     }

@@ -2,7 +2,7 @@
 // comparison of a recorded case.
 // `number` and `result` are 0, or 1 to make the outcome's number, or its first result, a wrong one.
 use recorded::numbers::pair_at;
-use recorded_cases::cases::agrees;
+use recorded_expressions::cases::agrees;
 use replay::file;
 
 // The rest of a case: its two expressions, each as long as the slice that takes it.

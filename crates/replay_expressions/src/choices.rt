@@ -1,22 +1,22 @@
 // One pair of choices.bin, read: the head and, where the pair is of two expressions, the records of both. It rests on the
 // comparison of a recorded choice.
-use crate::costs::ROOM;
 use recorded::numbers::byte_at;
 use recorded::numbers::pair_at;
-use recorded_cases::choices::chooses;
-use recorded_cases::choices::compares;
+use recorded_expressions::choices::chooses;
+use recorded_expressions::choices::compares;
 use replay::records;
+use replay::records::EXPRESSION_BYTES;
 
 // The expressions after the head, of so many records, and which of the two is to be chosen.
 fn is_chosen(fd: i32, one: usize, other: usize, chosen: usize) -> bool {
-    let mut first = [0u8; ROOM];
-    let mut second = [0u8; ROOM];
+    let mut first = [0u8; EXPRESSION_BYTES];
+    let mut second = [0u8; EXPRESSION_BYTES];
     let length = records::read(fd, one, &mut first);
     let rest = records::read(fd, other, &mut second);
-    if length > ROOM {
+    if length > EXPRESSION_BYTES {
         return false;
     }
-    if rest > ROOM {
+    if rest > EXPRESSION_BYTES {
         return false;
     }
     chooses(&first[0..length], &second[0..rest], chosen)

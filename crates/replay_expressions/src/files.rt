@@ -8,6 +8,7 @@ use comparison::tally;
 use comparison::tally::Tally;
 use recorded_listings::Asked;
 use replay::file;
+use rules::FORM_FLAGS;
 
 // Those named wrong are made so by the program, in every item of a file.
 pub enum Item {
@@ -45,9 +46,9 @@ fn is_same(item: Item, fd: i32, head: &[u8]) -> bool {
         Item::WrongResult => cases::is_same(fd, head, 0, 1),
         Item::Costs => costs::is_same(fd, head),
         Item::Choice => choices::is_same(fd, head),
-        Item::Listing => is_same_form(fd, head, 17, 1),
-        Item::WrongFlags => is_same_form(fd, head, 16, 1),
-        Item::WrongRoom => is_same_form(fd, head, 17, 0),
+        Item::Listing => is_same_form(fd, head, FORM_FLAGS + 1, 1),
+        Item::WrongFlags => is_same_form(fd, head, FORM_FLAGS, 1),
+        Item::WrongRoom => is_same_form(fd, head, FORM_FLAGS + 1, 0),
     }
 }
 

@@ -1,7 +1,7 @@
 // Replays recorded answers about expressions and forms: each file of data/ holds calls with what document 01, or the
 // original Rust, answers to them, and a line for each file says how many were compared and how many differ. The answers in
 // the files named wrong, and those that the program itself makes wrong, differ on purpose, and the lines must say so. It
-// rests on the comparison of each recorded item with the library's call; the formats of the files are in data/README.md.
+// rests on `recorded_expressions` and `recorded_listings`, which compare; the formats of the files are in data/README.md.
 mod cases;
 mod choices;
 mod costs;

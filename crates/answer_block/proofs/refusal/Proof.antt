@@ -1,15 +1,11 @@
--- `answer_block::refusal` meets its contract: one store. From the law of Stored.
-use mathlib.Core.Path.{refl, _∙_}
-use denote.Ref.{now}
+-- `answer_block::refusal` meets its contract: its place is one number.
+use mathlib.Core.Path.{refl}
 use borrow.Author.Needs.{needs}
-use Rattle.answer_block.proofs.Stored.{stored-first}
 use Rattle.answer_block.proofs.refusal.Statement.{statement}
 use Rattle.answer_block.proofs.refusal.Tie as tie
 
 returns : tie.Need-returns
-returns c =
-    let a = c .before .before .before .before .before .args in
-    (refl, c .before .before .put .ensures ∙ stored-first (now (a .block)) (a .refused .place))
+returns c = (refl, c .before .before .one .ensures .1)
 
 pub refusal-spec : {M : Type 1} → statement M
 refusal-spec = tie.close (tie.spec (λ c κs. search needs) (λ c. search needs) returns)

@@ -1,14 +1,13 @@
 -- `guide_rules::rule_compile` meets its contract: each arm names the compiler's answer, whose promise says what it means. From the laws of
--- Answered.
+-- the answer (answer_block, Answered).
 use mathlib.Core.List.{[], _∷_}
-use mathlib.Core.Path.{sym, ap, _∙_}
+use mathlib.Core.Path.{sym, ap}
 use Prim.Native.Nat.{ℕ}
 use borrow.Author.Needs.{needs}
 use Rattle.laws.proofs.calls.Outcome.{length-front}
 use Rattle.compiler.specs.Answers.{compilationOf}
-use Rattle.compiler.specs.declared.Compilation.{Compilation}
-use Rattle.answer_block.proofs.Answered.{answer-gives, answer-refuses}
-use Rattle.guide_rules.specs.Numbers.{compilation}
+use Rattle.answer_block.proofs.Answered.{told-as, answer-gives, answer-refuses}
+use Rattle.answer_block.specs.Numbers.{compilation}
 use Rattle.guide_rules.proofs.rule_compile.Statement.{statement}
 use Rattle.guide_rules.proofs.rule_compile.Tie as tie
 
@@ -20,7 +19,7 @@ returns c =
     let out = call .last .1 .1 .0 in
     let e = told .compilation .given .0 .0 in
     let same = ap (λ (n : ℕ). n ∷ e .records ∷ e .cost ∷ e .raw ∷ []) (sym (length-front (e .bytes) out)) in
-    let is = sym (ap (λ (q : Compilation). compilationOf out q) (told .compilation .given .1)) ∙ call .ensures .0 in
+    let is = told-as (compilationOf out) (told .compilation .given .1) (call .ensures .0) in
     let (number, answer) = answer-gives compilation _ is (r .ensures .0) (r .ensures .1) same in
     (number, (call .ensures .1, answer))
 
@@ -30,7 +29,7 @@ returns-2 c =
     let told = c .before .before .before .before .before in
     let call = told .before .before .before .before .build-anf-expr in
     let out = call .last .1 .1 .0 in
-    let is = sym (ap (λ (q : Compilation). compilationOf out q) (told .compilation2 .given .1)) ∙ call .ensures .0 in
+    let is = told-as (compilationOf out) (told .compilation2 .given .1) (call .ensures .0) in
     let (number, answer) = answer-refuses compilation _ is (r .ensures .0) (r .ensures .1) in
     (number, (call .ensures .1, answer))
 

@@ -1,15 +1,14 @@
 -- `guide_rules::rule_listing` meets its contract: each arm names the listing's answer, whose promise says what it means. From the laws of
--- Answered.
+-- the answer (answer_block, Answered).
 use mathlib.Core.List.{[], _∷_}
-use mathlib.Core.Path.{sym, ap, _∙_}
+use mathlib.Core.Path.{sym, ap}
 use Prim.Native.Nat.{ℕ}
 use borrow.Author.Needs.{needs}
 use Rattle.bits.specs.Bit.{digit}
 use Rattle.laws.proofs.calls.Outcome.{length-front}
 use Rattle.anf_form.specs.Answers.{listingOf}
-use Rattle.anf_form.specs.declared.Listing.{Listing}
-use Rattle.answer_block.proofs.Answered.{answer-gives, answer-refuses}
-use Rattle.guide_rules.specs.Numbers.{listing}
+use Rattle.answer_block.proofs.Answered.{told-as, answer-gives, answer-refuses}
+use Rattle.answer_block.specs.Numbers.{listing}
 use Rattle.guide_rules.proofs.rule_listing.Statement.{statement}
 use Rattle.guide_rules.proofs.rule_listing.Tie as tie
 
@@ -20,7 +19,7 @@ returns c =
     let call = told .before .before .before .before .from-anf-coeffs in
     let out = call .last .1 .1 .0 in
     let same = ap (λ (n : ℕ). digit (told .listing .given .0 .0 .constant) ∷ n ∷ []) (sym (length-front (told .listing .given .0 .0 .count) out)) in
-    let is = sym (ap (λ (q : Listing). listingOf out q) (told .listing .given .1)) ∙ call .ensures .0 in
+    let is = told-as (listingOf out) (told .listing .given .1) (call .ensures .0) in
     let (number, answer) = answer-gives listing _ is (r .ensures .0) (r .ensures .1) same in
     (number, (call .ensures .1, answer))
 
@@ -30,7 +29,7 @@ returns-2 c =
     let told = c .before .before .before .before .before in
     let call = told .before .before .before .before .from-anf-coeffs in
     let out = call .last .1 .1 .0 in
-    let is = sym (ap (λ (q : Listing). listingOf out q) (told .listing2 .given .1)) ∙ call .ensures .0 in
+    let is = told-as (listingOf out) (told .listing2 .given .1) (call .ensures .0) in
     let (number, answer) = answer-refuses listing _ is (r .ensures .0) (r .ensures .1) in
     (number, (call .ensures .1, answer))
 

@@ -2,7 +2,7 @@
 use mathlib.Core.Bool.{false≢true}
 use mathlib.Core.Path.{sym, _∙_}
 use borrow.Author.Needs.{needs}
-use Rattle.expr_cost.proofs.Compared.{cheaper-contents}
+use Rattle.cheaper.proofs.Compared.{cheaper-contents}
 use Rattle.recorded_calls.proofs.Chosen.{chosen-none, chosen-first, chosen-second, chosen-other}
 use Rattle.recorded_calls.proofs.choice.Statement.{statement}
 use Rattle.recorded_calls.proofs.choice.Tie as tie

@@ -1,7 +1,7 @@
 -- `guide_rules::expressions::rule_cheaper` meets its contract: each arm names what `compare` answers. From the laws of Cheaper.
 use mathlib.Core.Path.{sym, _∙_}
 use borrow.Author.Needs.{needs}
-use Rattle.expr_cost.specs.declared.Which.the-variants.{First, Second, Neither}
+use Rattle.cheaper.specs.declared.Which.the-variants.{First, Second, Neither}
 use Rattle.guide_rules.proofs.Cheaper.{cheaper-number}
 use Rattle.guide_rules.proofs.expressions.rule_cheaper.Statement.{statement}
 use Rattle.guide_rules.proofs.expressions.rule_cheaper.Tie as tie

@@ -1,10 +1,10 @@
 -- `guide_rules::expressions::rule_cost` meets its contract: each arm names costing's answer, whose promise says what it means. From the laws of
--- Answered.
-use mathlib.Core.Path.{refl, sym, ap, _∙_}
+-- the answer (answer_block, Answered).
+use mathlib.Core.Path.{refl}
 use borrow.Author.Needs.{needs}
 use Rattle.expr_cost.specs.Answers.{costingOf}
-use Rattle.answer_block.proofs.Answered.{answer-gives, answer-refuses}
-use Rattle.guide_rules.specs.Numbers.{costs}
+use Rattle.answer_block.proofs.Answered.{told-as, answer-gives, answer-refuses}
+use Rattle.answer_block.specs.Numbers.{costs}
 use Rattle.guide_rules.proofs.expressions.rule_cost.Statement.{statement}
 use Rattle.guide_rules.proofs.expressions.rule_cost.Tie as tie
 
@@ -12,14 +12,14 @@ returns : tie.Need-returns
 returns c =
     let r = c .before .before .three in
     let told = c .before .before .before .before .before in
-    let e = sym (ap costingOf (told .costing .given .1)) ∙ told .before .before .compute-cost .ensures in
+    let e = told-as costingOf (told .costing .given .1) (told .before .before .compute-cost .ensures) in
     answer-gives costs _ e (r .ensures .0) (r .ensures .1) refl
 
 returns-2 : tie.Need-returns-2
 returns-2 c =
     let r = c .before .before .refusal in
     let told = c .before .before .before .before .before in
-    let e = sym (ap costingOf (told .costing2 .given .1)) ∙ told .before .before .compute-cost .ensures in
+    let e = told-as costingOf (told .costing2 .given .1) (told .before .before .compute-cost .ensures) in
     answer-refuses costs _ e (r .ensures .0) (r .ensures .1)
 
 pub rule-cost-spec : {M : Type 1} → statement M

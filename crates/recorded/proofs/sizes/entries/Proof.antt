@@ -3,13 +3,14 @@ use native.Mathlib.Omega.{arith}
 use lib.Pow.{pow-mono, shl-exact}
 use borrow.Author.Needs.{needs}
 use borrow.Author.Tests.{le-leb, lt-leb}
+use Rattle.rules.specs.Limits.{formFlags}
 use Rattle.recorded.specs.Sizes.{entriesOf}
 use Rattle.recorded.proofs.sizes.entries.Statement.{statement}
 use Rattle.recorded.proofs.sizes.entries.Tie as tie
 
 returns : tie.Need-returns
 unfolding entriesOf
-returns c = (rw (lt-leb (c .before .args .flags) 16 (c .if1 .taken), entriesOf), search needs)
+returns c = (rw (lt-leb (c .before .args .flags) formFlags (omega arith), entriesOf), search needs)
 
 shl-result : tie.Need-shl-result
 shl-result c = search needs
@@ -19,7 +20,7 @@ unfolding entriesOf
 returns-2 c =
     let n = c .before .args .flags in
     let e = shl-exact {a = 1} 1 n 64 (omega arith) (omega arith) in
-    (rw (le-leb n 16 (c .if1 .left), entriesOf) (omega (arith, e)), omega (arith, e, pow-mono {i = n} {j = 16} (omega arith)))
+    (rw (le-leb n formFlags (omega arith), entriesOf) (omega (arith, e)), omega (arith, e, pow-mono {i = n} {j = formFlags} (omega arith)))
 
 pub entries-spec : {M : Type 1} → statement M
 entries-spec = tie.close (tie.spec returns shl-result returns-2)
