@@ -4,3 +4,4 @@ pub mod Stack
 pub mod ReadBack
 pub mod WellFormed
 pub mod FlagsBelow
+pub mod LongRows

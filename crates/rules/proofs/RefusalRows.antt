@@ -107,7 +107,7 @@ unfolding computing isRefusal
 refusedBy n k p s = isRefusal k p (evaluate n s 0) && isRefusal k p (costing n s) && isRefusal k p (examine n (0 ∷ 0 ∷ 0 ∷ 0 ∷ []) s)
 
 -- "a 386th record begins", its first byte: where no more records may begin, one that does is refused, also where it is no record, and the end is
--- still the end. Document 01's unmarked examples have the 385th and the 386th.
+-- still the end. Document 01's unmarked examples have the 385th and the 386th (laws, LongRows).
 pub record-refusals :
     T (
     isRefusal 9 3 (run 0 1 (bytesOf "VA0 NO") 3 (VA 0 ∷ []))

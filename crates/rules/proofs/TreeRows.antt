@@ -2,13 +2,13 @@
 -- the comments quote; nothing here came from a program.
 use mathlib.Core.Bool.{true, false, _&&_}
 use mathlib.Core.List.{List, [], _∷_, map}
-use Prim.Native.Nat.{ℕ, _+_, _*_}
+use Prim.Native.Nat.{ℕ, _+_, _*_, _/_}
 use native.Mathlib.Omega.{arith}
 use lib.Dec.{T, eqb}
 use Rattle.bits.specs.Bit.{digit}
 use Rattle.bits.specs.Range.{same}
 use Rattle.rules.specs.Ascii.{ascii}
-use Rattle.rules.specs.Limits.{byteLimit}
+use Rattle.rules.specs.Limits.{recordLimit, byteLimit}
 use Rattle.rules.specs.Table.{settings}
 use Rattle.rules.specs.Tree.{Tree, CO, VA, AN, OR, XO, NO, value, cost, size, depth, write, FlagsBelow, mentioned}
 use Rattle.rules.proofs.Answers.{entriesOf}
@@ -134,7 +134,7 @@ unfolding computing
 write-rows = tt
 
 -- "963 bytes always suffice": 385 records have at most 193 leaves of three bytes, and then 192 operators of two
-pub byte-limit : T (eqb byteLimit (193 * 3 + 192 * 2))
+pub byte-limit : T (eqb byteLimit ((recordLimit + 1) / 2 * 3 + recordLimit / 2 * 2))
 byte-limit = tt
 
 -- the flags that stand in a tree, as a mask; flags 0 and 2 in one operand, 1 and 2 in the other

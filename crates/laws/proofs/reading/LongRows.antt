@@ -1,0 +1,24 @@
+-- Document 01's unmarked examples with as many records as there may be, and with one more, computed with the definitions: "VA0 and 384 NO 13, place
+-- 385; with 385 NO 9, place 771". They stand apart from rules' rows because they take as long as all of those.
+use mathlib.Core.Bool.{_&&_}
+use mathlib.Core.List.{List, [], _++_}
+use Prim.Native.Nat.{ℕ, zero, suc}
+use lib.Dec.{T}
+use Rattle.rules.specs.Ascii.{ascii}
+use Rattle.rules.proofs.Answers.{bytesOf, isRefusal}
+use Rattle.rules.proofs.Computing.{computing}
+use Rattle.rules.proofs.Rows.{examined}
+
+unfoldable pub negations : ℕ → List ℕ
+unfolding computing
+negations zero = []
+negations (suc k) = ascii "NO" ++ negations k
+
+-- flag 0 and k times NO
+unfoldable pub negated : ℕ → List ℕ
+unfolding bytesOf negations
+negated k = bytesOf "VA0" ++ negations k
+
+pub long-rows-hold : T (isRefusal 13 385 (examined (negated 384)) && isRefusal 9 771 (examined (negated 385)))
+unfolding examined bytesOf negated isRefusal
+long-rows-hold = tt
