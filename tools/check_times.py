@@ -16,7 +16,7 @@ print("`tools/check_times.py` makes this page from what `rt ci` prints. Seconds 
 print("one more check of the crate. Two checks run side by side, so the whole takes about half of the sum. Times vary by machine.\n")
 print("| | Crates | Proofs, s | Edits | Their checks, s |\n|---|---|---|---|---|")
 print("| version 0.1.0, before crates were split by functions and laws stood apart | 23 | 367 | 275 | 4253 |")
-print("| version 0.2.0, before what decides in the replays and the answer block for C stood apart | 39 | 396 | 335 | 2572 |")
+print("| version 0.2.0, before the calls for C and what decides in the replays were split by functions | 39 | 396 | 335 | 2572 |")
 print(f"| now | {len(proof)} | {sum(proof.values())} | {sum(edits.values())} | {sum(trials.values())} |\n")
 print("| Crate | Proof, s | Edits | Their checks, s |\n|---|---|---|---|")
 for crate in proof:

@@ -54,8 +54,8 @@ pub reading-rows :
 unfolding computing bytesOf
 reading-rows = tt
 
--- "Returns 0 where rule_cost refuses n or either expression; else 2 where the second has the smaller size, or the same size and the smaller depth; else
--- 1"
+-- "Returns 0 where rule_cost refuses n or either expression; else 2 where the second has the smaller size, or the same size and the smaller depth;
+-- else 1"
 pub cheaper-rows :
     T (
     eqb (cheaper 1 (bytesOf "VA0 NO NO") (bytesOf "VA0")) 2

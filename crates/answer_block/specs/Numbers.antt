@@ -56,7 +56,7 @@ reading (some r) = kindNumber (r .kind) ∷ payload (r .kind) ∷ r .next ∷ []
 abbrev pub costs : Costs → List ℕ
 costs c = c .cost ∷ c .size ∷ c .depth ∷ []
 
--- "Returns 0 where rule_cost refuses n or either expression; else 2 where the second has the smaller size, or the same size and the smaller depth; else
--- 1"
+-- "Returns 0 where rule_cost refuses n or either expression; else 2 where the second has the smaller size, or the same size and the smaller depth;
+-- else 1"
 unfoldable pub cheaper : ℕ → List ℕ → List ℕ → ℕ
 cheaper n s t = cheaperOf 0 1 2 (parse n s) (parse n t)

@@ -1,19 +1,12 @@
-// The whole library for C: every call of document 01 as one function. It returns the refusal's number, 0 for none, and stores the answer at the
-// front of a lent block of 64-bit numbers: the results, or after a refusal the place alone. `include/guide_rules.h` declares the calls. It rests
-// on them and on `answer_block`. Here are those on tables and coefficients, in `expressions` those on expressions.
-mod expressions;
-
-use anf_form::Listing;
-use anf_form::RawCost;
-use anf_transform::Filled;
-use compiler::Compilation;
+// The whole library for C: every call of document 01 as one function, which `include/guide_rules.h` declares. A call returns the refusal's number, 0
+// for none, and stores its answer at the front of a lent block of 64-bit numbers: the results, or after a refusal the place alone. A static library
+// has the functions of one crate, so they stand here by their names for C; it rests on `c_tables` and `c_expressions`, which answer.
 ghost use mathlib.Core.Path.{_≡_};
 ghost use lib.ListN.{length};
 ghost use Rattle.compiler.specs.Answers.{bytesOf};
 ghost use Rattle.rules.specs.Calls;
-ghost use Rattle.rules.specs.Console.{number};
 ghost use Rattle.rules.specs.Outcome.{left, gives, _then_};
-ghost use Rattle.answer_block.specs.Block.{stored, numbers};
+ghost use Rattle.answer_block.specs.Block.{Answers};
 ghost use Rattle.answer_block.specs.Numbers as c;
 
 // The coefficient words of a table, at the front of `out`.
@@ -24,16 +17,11 @@ pub extern "C" fn rule_transform(
     out: &mut [u64],
     answer: &mut [u64],
 ) -> u64
-    ensures number { λ r. ⌜ r ≡ number (Calls.transform flags (now (table .entry)) (length (now (out .entry)))) ⌝ }
     ensures lent { λ _. ⌜ now (out .exit) ≡ left (now (out .entry)) (Calls.transform flags (now (table .entry)) (length (now (out .entry)))) ⌝ }
-    ensures answer { λ _. ⌜ now (answer .exit) ≡ stored (now (answer .entry))
-        (numbers c.entries (Calls.transform flags (now (table .entry)) (length (now (out .entry))))) ⌝ }
+    ensures answer { λ r. ⌜ Answers c.entries (Calls.transform flags (now (table .entry)) (length (now (out .entry))))
+        (now (answer .entry)) r (now (answer .exit)) ⌝ }
 {
-    let filled = anf_transform::compute_anf(flags, table, out);
-    match filled {
-        Filled::Entries(words) => answer_block::one(answer, words as u64),
-        Filled::Refused(refusal) => answer_block::refusal(answer, refusal),
-    }
+    c_tables::transform(flags, table, out, answer)
 }
 
 // The table of coefficients, one entry for each setting, at the front of `out`.
@@ -44,16 +32,11 @@ pub extern "C" fn rule_way_back(
     out: &mut [u64],
     answer: &mut [u64],
 ) -> u64
-    ensures number { λ r. ⌜ r ≡ number (Calls.wayBack flags (now (coefficients .entry)) (length (now (out .entry)))) ⌝ }
     ensures lent { λ _. ⌜ now (out .exit) ≡ left (now (out .entry)) (Calls.wayBack flags (now (coefficients .entry)) (length (now (out .entry)))) ⌝ }
-    ensures answer { λ _. ⌜ now (answer .exit) ≡ stored (now (answer .entry))
-        (numbers c.entries (Calls.wayBack flags (now (coefficients .entry)) (length (now (out .entry))))) ⌝ }
+    ensures answer { λ r. ⌜ Answers c.entries (Calls.wayBack flags (now (coefficients .entry)) (length (now (out .entry))))
+        (now (answer .entry)) r (now (answer .exit)) ⌝ }
 {
-    let filled = anf_transform::compute_table(flags, coefficients, out);
-    match filled {
-        Filled::Entries(entries) => answer_block::one(answer, entries as u64),
-        Filled::Refused(refusal) => answer_block::refusal(answer, refusal),
-    }
+    c_tables::way_back(flags, coefficients, out, answer)
 }
 
 // The monomials by count of ones, then mask, at the front of `out`.
@@ -64,35 +47,21 @@ pub extern "C" fn rule_listing(
     out: &mut [u32],
     answer: &mut [u64],
 ) -> u64
-    ensures number { λ r. ⌜ r ≡ number (Calls.listing flags (now (coefficients .entry)) (length (now (out .entry)))) ⌝ }
     ensures lent { λ _. ⌜ now (out .exit) ≡ left (now (out .entry))
         (Calls.listing flags (now (coefficients .entry)) (length (now (out .entry))) then (λ l. gives (l .masks))) ⌝ }
-    ensures answer { λ _. ⌜ now (answer .exit) ≡ stored (now (answer .entry))
-        (numbers c.listing (Calls.listing flags (now (coefficients .entry)) (length (now (out .entry))))) ⌝ }
+    ensures answer { λ r. ⌜ Answers c.listing (Calls.listing flags (now (coefficients .entry)) (length (now (out .entry))))
+        (now (answer .entry)) r (now (answer .exit)) ⌝ }
 {
-    let listing = anf_form::from_anf_coeffs(flags, coefficients, out);
-    match listing {
-        Listing::Listed(contents) => answer_block::two(
-            answer,
-            contents.constant as u64,
-            contents.count as u64,
-        ),
-        Listing::Refused(refusal) => answer_block::refusal(answer, refusal),
-    }
+    c_tables::listing(flags, coefficients, out, answer)
 }
 
 // The cost of the raw form.
 #[no_mangle]
 pub extern "C" fn rule_raw_cost(flags: usize, coefficients: &[u64], answer: &mut [u64]) -> u64
-    ensures number { λ r. ⌜ r ≡ number (Calls.rawCosting flags (now (coefficients .entry))) ⌝ }
-    ensures answer { λ _. ⌜ now (answer .exit) ≡ stored (now (answer .entry))
-        (numbers c.alone (Calls.rawCosting flags (now (coefficients .entry)))) ⌝ }
+    ensures answer { λ r. ⌜ Answers c.alone (Calls.rawCosting flags (now (coefficients .entry)))
+        (now (answer .entry)) r (now (answer .exit)) ⌝ }
 {
-    let raw = anf_form::raw_anf_cost(flags, coefficients);
-    match raw {
-        RawCost::Cost(cost) => answer_block::one(answer, cost as u64),
-        RawCost::Refused(refusal) => answer_block::refusal(answer, refusal),
-    }
+    c_tables::raw_cost(flags, coefficients, answer)
 }
 
 // The expression of a table, at the front of `out`.
@@ -103,21 +72,59 @@ pub extern "C" fn rule_compile(
     out: &mut [u8],
     answer: &mut [u64],
 ) -> u64
-    ensures number { λ r. ⌜ r ≡ number (Calls.compile flags (now (table .entry)) (length (now (out .entry)))) ⌝ }
     ensures lent { λ _. ⌜ now (out .exit) ≡ left (now (out .entry))
         (bytesOf (Calls.compile flags (now (table .entry)) (length (now (out .entry))))) ⌝ }
-    ensures answer { λ _. ⌜ now (answer .exit) ≡ stored (now (answer .entry))
-        (numbers c.compilation (Calls.compile flags (now (table .entry)) (length (now (out .entry))))) ⌝ }
+    ensures answer { λ r. ⌜ Answers c.compilation (Calls.compile flags (now (table .entry)) (length (now (out .entry))))
+        (now (answer .entry)) r (now (answer .exit)) ⌝ }
 {
-    let compilation = compiler::build_anf_expr(flags, table, out);
-    match compilation {
-        Compilation::Written(expression) => answer_block::four(
-            answer,
-            expression.bytes as u64,
-            expression.records as u64,
-            expression.cost as u64,
-            expression.raw as u64,
-        ),
-        Compilation::Refused(refusal) => answer_block::refusal(answer, refusal),
-    }
+    c_tables::compile(flags, table, out, answer)
+}
+
+// The record at a place, or the end.
+#[no_mangle]
+pub extern "C" fn rule_read(flags: usize, bytes: &[u8], place: usize, answer: &mut [u64]) -> u64
+    ensures answer { λ r. ⌜ Answers c.reading (Calls.read flags (now (bytes .entry)) place)
+        (now (answer .entry)) r (now (answer .exit)) ⌝ }
+{
+    c_expressions::read(flags, bytes, place, answer)
+}
+
+// The value of an expression at one setting.
+#[no_mangle]
+pub extern "C" fn rule_evaluate(
+    flags: usize,
+    bytes: &[u8],
+    setting: usize,
+    answer: &mut [u64],
+) -> u64
+    ensures answer { λ r. ⌜ Answers c.alone (Calls.evaluate flags (now (bytes .entry)) setting)
+        (now (answer .entry)) r (now (answer .exit)) ⌝ }
+{
+    c_expressions::evaluate(flags, bytes, setting, answer)
+}
+
+// The cost, size and depth of an expression.
+#[no_mangle]
+pub extern "C" fn rule_cost(flags: usize, bytes: &[u8], answer: &mut [u64]) -> u64
+    ensures answer { λ r. ⌜ Answers c.costs (Calls.costing flags (now (bytes .entry)))
+        (now (answer .entry)) r (now (answer .exit)) ⌝ }
+{
+    c_expressions::cost(flags, bytes, answer)
+}
+
+// Which of two expressions is the cheaper: 1 the first, 2 the second, 0 where the flag count or either is refused.
+#[no_mangle]
+pub extern "C" fn rule_cheaper(flags: usize, first: &[u8], second: &[u8]) -> u64
+    ensures { λ r. ⌜ r ≡ c.cheaper flags (now (first .entry)) (now (second .entry)) ⌝ }
+{
+    c_expressions::cheaper(flags, first, second)
+}
+
+// The examination of an expression against a table.
+#[no_mangle]
+pub extern "C" fn rule_examine(flags: usize, table: &[u64], bytes: &[u8], answer: &mut [u64]) -> u64
+    ensures answer { λ r. ⌜ Answers c.alone (Calls.examine flags (now (table .entry)) (now (bytes .entry)))
+        (now (answer .entry)) r (now (answer .exit)) ⌝ }
+{
+    c_expressions::examine(flags, table, bytes, answer)
 }

@@ -10,8 +10,8 @@ returns : tie.Need-returns
 returns c =
     let before = c .before .before .before .before .before .before in
     let a = before .before .before .before .args in
-    let stored = stored-more (now (a .block)) (a .first ∷ a .second ∷ []) (a .third) (before .two .ensures .1) (c .before .before .put .ensures) in
-    (before .two .ensures .0, stored)
+    let numbers = a .first ∷ a .second ∷ [] in
+    (before .two .ensures .0, stored-more (now (a .block)) numbers (a .third) (before .two .ensures .1) (c .before .before .put .ensures))
 
 pub three-spec : {M : Type 1} → statement M
 three-spec = tie.close (tie.spec (λ c κs. search needs) (λ c κs. search needs) (λ c. search needs) returns)

@@ -10,8 +10,8 @@ returns : tie.Need-returns
 returns c =
     let before = c .before .before .before .before .before .before in
     let a = before .before .before .before .args in
-    let stored = stored-more (now (a .block)) (a .first ∷ []) (a .second) (before .one .ensures .1) (c .before .before .put .ensures) in
-    (before .one .ensures .0, stored)
+    let numbers = a .first ∷ [] in
+    (before .one .ensures .0, stored-more (now (a .block)) numbers (a .second) (before .one .ensures .1) (c .before .before .put .ensures))
 
 pub two-spec : {M : Type 1} → statement M
 two-spec = tie.close (tie.spec (λ c κs. search needs) (λ c κs. search needs) (λ c. search needs) returns)
