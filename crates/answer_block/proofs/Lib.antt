@@ -1,4 +1,4 @@
-pub mod Rows
+pub mod AnswerRows
 pub mod Stored
 pub mod Answered
 pub mod Injective

@@ -1,4 +1,5 @@
--- A lent block that takes as much of an answer as it has room for, filled number by number. It rests on the definition of Block.
+-- A lent block that takes as much of an answer as it has room for, filled number by number. It rests on the definition of Block and on the
+-- laws of runs of stores (bits, Stores).
 --   stored-first     == the first number is one store
 --   stored-more      == one more number is one more store, after those before it
 --   stored-front     == where there is room, the numbers stand at the front
@@ -7,19 +8,16 @@
 use mathlib.Core.List.{List, [], _∷_, _++_}
 use mathlib.Core.Path.{_≡_, refl, sym, ap, subst, _∙_}
 use Prim.Native.Nat.{ℕ, suc, _≤_, _<_}
-use native.Mathlib.Nat.{le-of-suc-le-suc, not-suc-le-zero}
+use native.Mathlib.Nat.{not-suc-le-zero}
 use lib.ListN.{length, take, set, getD}
-use lib.Seq.{sets}
+use lib.Seq.{sets, take-all}
+use Rattle.bits.proofs.Stores.{sets-after, take-sets-front}
 use Rattle.answer_block.specs.Block.{stored}
 
 stored-none : (block : List ℕ) → stored block [] ≡ block
 unfolding stored
 stored-none [] = refl
 stored-none (b ∷ block) = refl
-
-sets-after : (y : ℕ) (block : List ℕ) (i : ℕ) (l : List ℕ) → sets (y ∷ block) (suc i) l ≡ y ∷ sets block i l
-sets-after y block i [] = refl
-sets-after y block i (x ∷ l) = sets-after y (set block i x) (suc i) l
 
 stored-after : (b : ℕ) (block : List ℕ) (y : ℕ) (l : List ℕ) → stored (b ∷ block) (y ∷ l) ≡ y ∷ stored block l
 unfolding stored
@@ -41,10 +39,8 @@ pub stored-more : {before after : List ℕ} (block l : List ℕ) (x : ℕ) → b
 stored-more block l x e f = f ∙ ap (λ (b : List ℕ). set b (length l) x) e ∙ stored-next block l x
 
 pub stored-front : (block l : List ℕ) → length l ≤ length block → take (length l) (stored block l) ≡ l
-stored-front block [] h = refl
-stored-front [] (x ∷ l) h = absurd (not-suc-le-zero h)
-stored-front (b ∷ block) (x ∷ l) h =
-    ap (take (suc (length l))) (stored-after b block x l) ∙ ap (λ (r : List ℕ). x ∷ r) (stored-front block l (le-of-suc-le-suc h))
+unfolding stored
+stored-front block l h = ap (λ (m : List ℕ). take (length l) (sets block 0 m)) (take-all (length block) l h) ∙ take-sets-front l block h
 
 pub stored-same : (block l m : List ℕ) → length l ≡ length m → length l ≤ length block → stored block l ≡ stored block m → l ≡ m
 stored-same block l m e h s =

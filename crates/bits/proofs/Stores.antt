@@ -1,6 +1,7 @@
 -- Runs of stores into a list: one run after another, a run before a run, and a run from the front.
 -- They rest on lib.Seq, the library's laws of stores.
 --   sets-append          == a run, and another from where it ends
+--   sets-after           == a run past the first entry is one of the rest
 --   take-sets-front      == the front holds what was stored there
 --   sets-before          == a run before a run
 --   getD-sets-before     == what stands before a run
@@ -22,6 +23,10 @@ module _ {A : Type 0} where
   sets-append (x ∷ a) b l i =
       let e : i + suc (length a) ≡ suc i + length a = omega arith in
       ap (λ (k : ℕ). sets (sets (set l i x) (suc i) a) k b) e ∙ sets-append a b (set l i x) (suc i)
+
+  pub sets-after : (y : A) (l : List A) (i : ℕ) (a : List A) → sets (y ∷ l) (suc i) a ≡ y ∷ sets l i a
+  sets-after y l i [] = refl
+  sets-after y l i (x ∷ a) = sets-after y (set l i x) (suc i) a
 
   pub take-sets-front : (a l : List A) → length a ≤ length l → take (length a) (sets l 0 a) ≡ a
   take-sets-front a l h = ap (take (length a)) (sets-eq a l 0 (omega arith)) ∙ take-at a (drop (0 + length a) l) (length a) refl

@@ -1,5 +1,6 @@
 -- Document 01's unmarked examples with as many records as there may be, and with one more, computed with the definitions: "VA0 and 384 NO 13, place
--- 385; with 385 NO 9, place 771". They stand apart from rules' rows because they take as long as all of those.
+-- 385; with 385 NO 9, place 771". They stand apart from rules' rows because they took a
+-- third of every check of `rules`.
 use mathlib.Core.Bool.{_&&_}
 use mathlib.Core.List.{List, [], _++_}
 use Prim.Native.Nat.{ℕ, zero, suc}
