@@ -1,11 +1,12 @@
-// The calls on expressions, for C: the reader, evaluation, costing, the cheaper of two and the examiner. Each answers in numbers, in a lent block;
-// the cheaper of two returns its number. It rests on these calls and on `answer_block`.
+// The calls on expressions, for C: the reader, evaluation at a setting and for 64 stars, costing, the cheaper of two and the examiner. Each answers
+// in numbers, in a lent block; the cheaper of two returns its number. It rests on these calls and on `answer_block`.
 use cheaper::Which;
 use evaluation::Evaluation;
 use examiner::Examination;
 use expr::Kind;
 use expr::Reading;
 use expr_cost::Costing;
+use stars::StarEvaluation;
 ghost use mathlib.Core.Path.{_≡_};
 ghost use Rattle.expr.specs.Answers.{kindOf};
 ghost use Rattle.rules.specs.Calls;
@@ -65,6 +66,18 @@ pub fn evaluate(flags: usize, bytes: &[u8], setting: usize, answer: &mut [u64]) 
     match evaluated {
         Evaluation::Value(value) => answer_block::one(answer, value),
         Evaluation::Refused(refusal) => answer_block::refusal(answer, refusal),
+    }
+}
+
+// The values of an expression for 64 stars, in one word.
+pub fn evaluate_stars(flags: usize, words: &[u64], bytes: &[u8], answer: &mut [u64]) -> u64
+    ensures answer { λ r. ⌜ Answers c.alone (Calls.evaluateStars flags (now (words .entry)) (now (bytes .entry)))
+        (now (answer .entry)) r (now (answer .exit)) ⌝ }
+{
+    let evaluated = stars::evaluate_stars(flags, words, bytes);
+    match evaluated {
+        StarEvaluation::Values(values) => answer_block::one(answer, values),
+        StarEvaluation::Refused(refusal) => answer_block::refusal(answer, refusal),
     }
 }
 

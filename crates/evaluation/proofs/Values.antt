@@ -1,5 +1,6 @@
 -- Laws of evaluation on paper: a refusal of the expression is evaluation's, and with the words of a setting's flags lane 0 is that setting, so the
--- value there is evaluation's. They rest on the laws of lanes (lanes, InLanes).
+-- value there is evaluation's. They rest on the laws of stars (laws, Stars): the
+-- setting is that of star 0.
 --   evaluated-refused    == a refusal of the expression is evaluation's
 --   lane-first           == lane 0 is the setting
 --   evaluated-lane       == so evaluation's answer is bit 0 of the word of values
@@ -15,10 +16,11 @@ use Rattle.bits.proofs.Tabulated.{getD-map-upto}
 use Rattle.rules.specs.Limits.{ruleFlags}
 use Rattle.rules.specs.Machine.{made}
 use Rattle.rules.specs.Outcome.{Outcome, gives, refuses, _then_}
+use Rattle.rules.specs.Stars.{starSetting, starValues}
 use Rattle.rules.specs.Tree.{Tree, value, cost}
-use Rattle.lanes.specs.Lanes.{lane, lanes, seen}
+use Rattle.laws.proofs.calls.Stars.{starSetting-is, bit-starValues}
+use Rattle.lanes.specs.Lanes.{seen}
 use Rattle.lanes.specs.declared.Seen.{Seen}
-use Rattle.lanes.proofs.InLanes.{lane-is, bit-lanes}
 use Rattle.evaluation.specs.inner.OneSetting.{evaluated, settingWords}
 
 pub evaluated-refused : (n : ℕ) (s : List ℕ) (at k p : ℕ) → made n s ≡ refuses k p → evaluated n s at ≡ refuses k p
@@ -26,22 +28,22 @@ unfolding evaluated
 evaluated-refused n s at k p e = ap (λ (o : Outcome Tree). o then (λ t. gives (digit (value t at)))) e
 
 module _ (n at : ℕ) (few : n ≤ ruleFlags) (h : at < 2 ^ n) where
-  pub lane-first : lane n (settingWords at) 0 ≡ at
+  pub lane-first : starSetting n (settingWords at) 0 ≡ at
   unfolding settingWords
   lane-first =
-      lane-is n (settingWords at) 0 at h
+      starSetting-is n (settingWords at) 0 at h
       (λ i l. ap (λ (w : ℕ). bit w 0) (getD-map-upto ruleFlags (λ k. digit (bit at k)) i (lt-of-lt-of-le l few)) ∙ bit-digit (bit at i))
 
-  value-lane : (t : Tree) → digit (value t at) ≡ lanes n (settingWords at) t % 2
+  value-lane : (t : Tree) → digit (value t at) ≡ starValues n (settingWords at) t % 2
   value-lane t =
-      let is : bit (lanes n (settingWords at) t) 0 ≡ value t at = bit-lanes n (settingWords at) t 0 (lit< tt) ∙ ap (value t) lane-first in
-      omega (arith, ap digit is, digit-bit (lanes n (settingWords at) t) 0)
+      let is : bit (starValues n (settingWords at) t) 0 ≡ value t at = bit-starValues n (settingWords at) t 0 (lit< tt) ∙ ap (value t) lane-first in
+      omega (arith, ap digit is, digit-bit (starValues n (settingWords at) t) 0)
 
   pub evaluated-lane : (s : List ℕ) → evaluated n s at ≡ seen n s (settingWords at) then (λ v. gives (v .values % 2))
   unfolding evaluated seen
   evaluated-lane s = go (made n s)
     where
       go : (o : Outcome Tree) → o then (λ t. gives (digit (value t at)))
-          ≡ o then (λ t. gives (record { values = lanes n (settingWords at) t; cost = cost t })) then (λ (v : Seen). gives (v .values % 2))
+          ≡ o then (λ t. gives (record { values = starValues n (settingWords at) t; cost = cost t })) then (λ (v : Seen). gives (v .values % 2))
       go (gives t) = ap gives (value-lane t)
       go (refuses k p) = refl

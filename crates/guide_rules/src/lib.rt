@@ -1,4 +1,4 @@
-// The whole library for C: every call of document 01 as one function, which `include/guide_rules.h` declares. A call returns the refusal's number, 0
+// The whole library for C: every call of document 01, and of its change requests, as one function, which `include/guide_rules.h` declares. A call returns the refusal's number, 0
 // for none, and stores its answer at the front of a lent block of 64-bit numbers: the results, or after a refusal the place alone. A static library
 // has the functions of one crate, so they stand here by their names for C; it rests on `c_tables` and `c_expressions`, which answer.
 ghost use mathlib.Core.Path.{_≡_};
@@ -101,6 +101,20 @@ pub extern "C" fn rule_evaluate(
         (now (answer .entry)) r (now (answer .exit)) ⌝ }
 {
     c_expressions::evaluate(flags, bytes, setting, answer)
+}
+
+// The values of an expression for 64 stars, in one word.
+#[no_mangle]
+pub extern "C" fn rule_evaluate_stars(
+    flags: usize,
+    words: &[u64],
+    bytes: &[u8],
+    answer: &mut [u64],
+) -> u64
+    ensures answer { λ r. ⌜ Answers c.alone (Calls.evaluateStars flags (now (words .entry)) (now (bytes .entry)))
+        (now (answer .entry)) r (now (answer .exit)) ⌝ }
+{
+    c_expressions::evaluate_stars(flags, words, bytes, answer)
 }
 
 // The cost, size and depth of an expression.

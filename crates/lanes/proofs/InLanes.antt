@@ -1,8 +1,5 @@
--- Laws of lanes: the operations on whole words are those of the records in every lane at once. They rest on the laws of bits and words (bits, Bit
--- and Word), on `value` of rules' Tree and, for the walk, on the laws of expr's Costed.
---   lane-is                  == the setting in a lane, told by its flags
---   bit-lanes, lanes-lt      == a tree's lanes: its values, in 64 bits
---   lanes-ext                == a word with the tree's values is the tree's lanes
+-- Laws of lanes: the operations on whole words are those of the records in every lane at once. They rest on the laws of bits (bits, Bit) and of a
+-- tree's values for 64 stars (laws, Stars) and, for the walk, on the laws of expr's Costed.
 --   combined n ws k x y      == the lanes of a record from those of its operands, for a flag of any index
 --   lanes-folds              == so the walk's stack of lanes follows the machine's stack of trees
 --   lanes-step               == one record more in the code's walk
@@ -18,88 +15,69 @@ use lib.ListN.{length, getD, set}
 use mir.Val.{boolByte}
 use Rattle.bits.specs.Bit.{_⊕_, bit}
 use Rattle.bits.proofs.Bit.{bit-and, bit-or, bit-xor, bit-not, bit-zero}
-use Rattle.bits.proofs.Word.{bit-word-keep, word-keep-lt, word-ext}
 use Rattle.rules.specs.Limits.{recordLimit}
 use Rattle.rules.specs.Machine.{made}
 use Rattle.rules.specs.Outcome.{Outcome, gives, refuses, _then_}
 use Rattle.rules.specs.Record.{Kind, Constant, Flag, And, Or, Xor, Not, FlagBelow, Found}
+use Rattle.rules.specs.Stars.{starValues}
 use Rattle.rules.specs.Tree.{Tree, CO, VA, AN, OR, XO, NO, value, cost}
+use Rattle.laws.proofs.calls.Stars.{bit-starSetting, bit-starValues, starValues-lt, starValues-ext}
 use Rattle.expr.specs.Inner.{arityOf, orOf, ended}
 use Rattle.expr.proofs.Costed.{Costed, costed-step, costed-end}
 use Rattle.expr.proofs.Reader.{Read, read-index}
 use Rattle.expr.proofs.Walk.{Folds}
 use Rattle.lanes.specs.declared.Seen.{Seen}
-use Rattle.lanes.specs.Lanes.{lane, lanes, seen}
+use Rattle.lanes.specs.Lanes.{seen}
 use Rattle.lanes.specs.Inner.{filled, applied}
 
 module _ (n : ℕ) (ws : List ℕ) where
-  bit-lane : (i j : ℕ) → i < n → bit (lane n ws j) i ≡ bit (getD ws i 0) j
-  unfolding lane
-  bit-lane i j h = bit-word-keep n (λ k. bit (getD ws k 0) j) i h
-
-  pub lane-is : (j at : ℕ) → at < 2 ^ n → ((i : ℕ) → i < n → bit (getD ws i 0) j ≡ bit at i) → lane n ws j ≡ at
-  unfolding lane
-  lane-is j at h e = sym (word-ext n at (λ k. bit (getD ws k 0) j) h (λ i l. sym (e i l)))
-
-  pub bit-lanes : (t : Tree) (j : ℕ) → j < 64 → bit (lanes n ws t) j ≡ value t (lane n ws j)
-  unfolding lanes
-  bit-lanes t j h = bit-word-keep 64 (λ k. value t (lane n ws k)) j h
-
-  pub lanes-lt : (t : Tree) → lanes n ws t < 2 ^ 64
-  unfolding lanes
-  lanes-lt t = word-keep-lt 64 (λ k. value t (lane n ws k))
-
-  pub lanes-ext : (t : Tree) (w : ℕ) → w < 2 ^ 64 → ((j : ℕ) → j < 64 → bit w j ≡ value t (lane n ws j)) → w ≡ lanes n ws t
-  unfolding lanes
-  lanes-ext t w h e = word-ext 64 w (λ k. value t (lane n ws k)) h e
-
   -- ---- one record
 
-  lanes-co : (b : Bool) → filled b ≡ lanes n ws (CO b)
+  lanes-co : (b : Bool) → filled b ≡ starValues n ws (CO b)
   unfolding value
-  lanes-co true = lanes-ext (CO true) (2 ^ 64 - 1) (lit< tt) (λ j h. bit-not 64 0 j (lit< tt) h ∙ ap not (bit-zero j))
-  lanes-co false = lanes-ext (CO false) 0 (lit< tt) (λ j h. bit-zero j)
+  lanes-co true = starValues-ext n ws (CO true) (2 ^ 64 - 1) (lit< tt) (λ j h. bit-not 64 0 j (lit< tt) h ∙ ap not (bit-zero j))
+  lanes-co false = starValues-ext n ws (CO false) 0 (lit< tt) (λ j h. bit-zero j)
 
-  lanes-va : (i : ℕ) → i < n → getD ws i 0 < 2 ^ 64 → getD ws i 0 ≡ lanes n ws (VA i)
+  lanes-va : (i : ℕ) → i < n → getD ws i 0 < 2 ^ 64 → getD ws i 0 ≡ starValues n ws (VA i)
   unfolding value
-  lanes-va i h small = lanes-ext (VA i) (getD ws i 0) small (λ j l. sym (bit-lane i j h))
+  lanes-va i h small = starValues-ext n ws (VA i) (getD ws i 0) small (λ j l. sym (bit-starSetting n ws i j h))
 
   module _ (x y : Tree) where
-    lanes-an : bitAnd (lanes n ws x) (lanes n ws y) ≡ lanes n ws (AN x y)
+    lanes-an : bitAnd (starValues n ws x) (starValues n ws y) ≡ starValues n ws (AN x y)
     unfolding value
     lanes-an =
-        lanes-ext (AN x y) _ (lt-of-le-of-lt (and-le-l (lanes n ws x) (lanes n ws y)) (lanes-lt x))
-        (λ j h. bit-and (lanes n ws x) (lanes n ws y) j ∙ ap₂ _&&_ (bit-lanes x j h) (bit-lanes y j h))
+        starValues-ext n ws (AN x y) _ (lt-of-le-of-lt (and-le-l (starValues n ws x) (starValues n ws y)) (starValues-lt n ws x))
+        (λ j h. bit-and (starValues n ws x) (starValues n ws y) j ∙ ap₂ _&&_ (bit-starValues n ws x j h) (bit-starValues n ws y j h))
 
-    lanes-or : bitOr (lanes n ws x) (lanes n ws y) ≡ lanes n ws (OR x y)
+    lanes-or : bitOr (starValues n ws x) (starValues n ws y) ≡ starValues n ws (OR x y)
     unfolding value
     lanes-or =
-        lanes-ext (OR x y) _ (or-lt 64 (lanes n ws x) (lanes n ws y) (lanes-lt x) (lanes-lt y))
-        (λ j h. bit-or (lanes n ws x) (lanes n ws y) j ∙ ap₂ _||_ (bit-lanes x j h) (bit-lanes y j h))
+        starValues-ext n ws (OR x y) _ (or-lt 64 (starValues n ws x) (starValues n ws y) (starValues-lt n ws x) (starValues-lt n ws y))
+        (λ j h. bit-or (starValues n ws x) (starValues n ws y) j ∙ ap₂ _||_ (bit-starValues n ws x j h) (bit-starValues n ws y j h))
 
-    lanes-xo : bitXor (lanes n ws x) (lanes n ws y) ≡ lanes n ws (XO x y)
+    lanes-xo : bitXor (starValues n ws x) (starValues n ws y) ≡ starValues n ws (XO x y)
     unfolding value
     lanes-xo =
-        lanes-ext (XO x y) _ (xor-lt 64 (lanes n ws x) (lanes n ws y) (lanes-lt x) (lanes-lt y))
-        (λ j h. bit-xor (lanes n ws x) (lanes n ws y) j ∙ ap₂ _⊕_ (bit-lanes x j h) (bit-lanes y j h))
+        starValues-ext n ws (XO x y) _ (xor-lt 64 (starValues n ws x) (starValues n ws y) (starValues-lt n ws x) (starValues-lt n ws y))
+        (λ j h. bit-xor (starValues n ws x) (starValues n ws y) j ∙ ap₂ _⊕_ (bit-starValues n ws x j h) (bit-starValues n ws y j h))
 
-  lanes-no : (x : Tree) → (2 ^ 64 - 1) - lanes n ws x ≡ lanes n ws (NO x)
+  lanes-no : (x : Tree) → (2 ^ 64 - 1) - starValues n ws x ≡ starValues n ws (NO x)
   unfolding value
   lanes-no x =
-      lanes-ext (NO x) _ (lt-of-le-of-lt (sub-le (2 ^ 64 - 1) (lanes n ws x)) (lit< tt))
-      (λ j h. bit-not 64 (lanes n ws x) j (lanes-lt x) h ∙ ap not (bit-lanes x j h))
+      starValues-ext n ws (NO x) _ (lt-of-le-of-lt (sub-le (2 ^ 64 - 1) (starValues n ws x)) (lit< tt))
+      (λ j h. bit-not 64 (starValues n ws x) j (starValues-lt n ws x) h ∙ ap not (bit-starValues n ws x j h))
 
   -- ---- the walk's step
 
   abbrev pub combined : Kind → ℕ → ℕ → ℕ
   combined (Constant b) x y = filled b
-  combined (Flag i) x y = lanes n ws (VA i)
+  combined (Flag i) x y = starValues n ws (VA i)
   combined And x y = bitAnd x y
   combined Or x y = bitOr x y
   combined Xor x y = bitXor x y
   combined Not x y = (2 ^ 64 - 1) - x
 
-  pub lanes-folds : Folds (lanes n ws) combined
+  pub lanes-folds : Folds (starValues n ws) combined
   lanes-folds (Constant b) x y a c p q = lanes-co b
   lanes-folds (Flag i) x y a c p q = refl
   lanes-folds And x y a c p q = ap₂ bitAnd (p (lit≤ tt)) (q (lit≤ tt)) ∙ lanes-an x y
@@ -119,11 +97,11 @@ module _ (n : ℕ) (ws : List ℕ) where
   -- ---- the walk
 
   module _ {s : List ℕ} {entries count place depth less : ℕ} {a : List ℕ} {ors : List Bool}
-      (w : Costed (lanes n ws) n s entries count place depth a ors less) where
+      (w : Costed (starValues n ws) n s entries count place depth a ors less) where
     pub lanes-step : ((i : ℕ) → getD ws i 0 < 2 ^ 64) → {r : Found} → Read n s place r → count < recordLimit
         → (base : ℕ) → base + arityOf (r .kind) ≡ depth → base < entries
         → (v : ℕ) → v ≡ applied ws (r .kind) (getD a base 0) (getD a (base + 1) 0) → (o : Bool) → o ≡ orOf (r .kind)
-        → Costed (lanes n ws) n s entries (count + 1) (r .next) (base + 1) (set a base v) (set ors base o)
+        → Costed (starValues n ws) n s entries (count + 1) (r .next) (base + 1) (set a base v) (set ors base o)
         (less + boolByte (o && getD ors base false))
     lanes-step small {r} f l base h below v is =
         let same = applied-combined small (r .kind) (read-index f n (le-refl n)) (getD a base 0) (getD a (base + 1) 0) in
@@ -135,4 +113,4 @@ module _ (n : ℕ) (ws : List ℕ) where
 
   pub seen-refused : (s : List ℕ) {k p : ℕ} → made n s ≡ refuses k p → seen n s ws ≡ refuses k p
   unfolding seen
-  seen-refused s e = ap (λ (o : Outcome Tree). o then (λ t. gives (record { values = lanes n ws t; cost = cost t }))) e
+  seen-refused s e = ap (λ (o : Outcome Tree). o then (λ t. gives (record { values = starValues n ws t; cost = cost t }))) e

@@ -1,3 +1,4 @@
 pub mod Outcome
 pub mod Checked
+pub mod Stars
 pub mod Numbered

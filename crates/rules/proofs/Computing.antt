@@ -9,7 +9,7 @@ use Rattle.bits.specs.Word.{places, word}
 use Rattle.rules.specs.Ascii.{ascii}
 use Rattle.rules.specs.Calls.{withTable, withCoefficients, withRoom, fill, transform, wayBack, listed, listing, rawCosting}
 use Rattle.rules.specs.Calls.{tableForm, compiled, compilation, compile, read, parse, evaluate, costing, smaller, cheaperOf, cheaperOfTwo}
-use Rattle.rules.specs.Calls.{differences, judged, examine}
+use Rattle.rules.specs.Calls.{evaluateStars, differences, judged, examine}
 use Rattle.rules.specs.Cleanup.{family, atop, better, greatest, singles, isFamily, isPartial, bestFamily, partialAt, partialOr}
 use Rattle.rules.specs.Cleanup.{meets, covered, stripped, isCube, cubeSaving, bestCube, withRest, cubeAt, commonCube}
 use Rattle.rules.specs.Cleanup.{absorb, absorption, cheaper, contest, turn, cleanup}
@@ -20,6 +20,7 @@ use Rattle.rules.specs.Machine.{binary, unary, push, finish, operands, r
 use Rattle.rules.specs.Monomial.{form, precedes, insert, ordered}
 use Rattle.rules.specs.Polynomial.{product, polynomial}
 use Rattle.rules.specs.Record.{mark, marked, plain, loaded, recordAt}
+use Rattle.rules.specs.Stars.{starSetting, starValues}
 use Rattle.rules.specs.Text.{decimalTurn, decimal, records, report, firstOf, flagsOf, isLine, printedAs, printed}
 use Rattle.rules.specs.Tree.{value, cost, size, depth, write, mentioned}
 
@@ -29,5 +30,6 @@ unfolding bit within below turns fixed from keep all any same sum places word on
     judged examine family atop better greatest singles isFamily isPartial bestFamily partialAt partialOr meets covered stripped isCube cubeSaving
     bestCube withRest cubeAt commonCube absorb absorption cheaper contest turn cleanup coefficient wordCount packed stray wordOf words entryAt entries
     chain halves rawForm termCost rawCost binary unary push finish operands run made form precedes insert ordered product polynomial mark marked plain
-    loaded recordAt decimalTurn decimal records report firstOf flagsOf isLine printedAs printed value cost size depth write mentioned
+    loaded recordAt decimalTurn decimal records report firstOf flagsOf isLine printedAs printed value cost size depth write mentioned starSetting
+    starValues evaluateStars
 computing = tt

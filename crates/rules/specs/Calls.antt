@@ -8,6 +8,7 @@
 --   compile n table room                 == the compiler: the bytes of `compiled n table` with their counts and costs
 --   read n s p, parse n s                == the record at a place, and the tree of all records
 --   evaluate n s at, costing n s         == the value at a setting, and cost, size and depth
+--   evaluateStars n ws s                 == the values for 64 stars
 --   cheaperOfTwo n a b                   == the cheaper of two expressions, or nothing; cheaperOf chooses alike of whatever stands for the two
 --   examine n table s                    == the examiner: the cost, or the first refusal
 use mathlib.Core.Bool.{Bool, true, false, not, _&&_, _||_}
@@ -22,11 +23,12 @@ use Rattle.rules.specs.Cleanup.{cleanup}
 use Rattle.rules.specs.Coefficient.{coefficient, wordCount, packed, stray, words}
 use Rattle.rules.specs.Form.{rawCost}
 use Rattle.rules.specs.Limits.{formFlags, ruleFlags}
-use Rattle.rules.specs.Limits.{tooManyFlags, shortTable, shortCoefficients, strayCoefficient, shortOutput, badSetting, differs, tooCostly}
+use Rattle.rules.specs.Limits.{tooManyFlags, shortTable, shortCoefficients, strayCoefficient, shortOutput, badSetting, differs, tooCostly, fewWords}
 use Rattle.rules.specs.Machine.{made}
 use Rattle.rules.specs.Monomial.{form, constant, monomials, ordered}
 use Rattle.rules.specs.Outcome.{Outcome, gives, refuses, refuse, _then_}
 use Rattle.rules.specs.Record.{Found, recordAt}
+use Rattle.rules.specs.Stars.{starValues}
 use Rattle.rules.specs.Table.{settings, entry, complete}
 use Rattle.rules.specs.Tree.{Tree, value, cost, size, depth, write}
 
@@ -127,6 +129,14 @@ evaluate n s at =
     refuse (ltb ruleFlags n) tooManyFlags 0
     (refuse (leb (2 ^ n) at) badSetting 0
     (made n s then (λ t. gives (digit (value t at)))))
+
+-- Request 1: "a second one shall take n, such words (word i for flag i) and bytes"; "It refuses with 14, after number 1 and before the records are
+-- read, when fewer than n words are lent, place 0."
+unfoldable pub evaluateStars : ℕ → List ℕ → List ℕ → Outcome ℕ
+evaluateStars n ws s =
+    refuse (ltb ruleFlags n) tooManyFlags 0
+    (refuse (ltb (length ws) n) fewWords 0
+    (made n s then (λ t. gives (starValues n ws t))))
 
 pub record Costs : Type 0 where
   pub cost : ℕ

@@ -6,6 +6,7 @@ pub mod Coefficient
 pub mod Polynomial
 pub mod Monomial
 pub mod Tree
+pub mod Stars
 pub mod Form
 pub mod Cleanup
 pub mod Record

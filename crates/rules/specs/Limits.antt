@@ -1,8 +1,8 @@
--- The limits of document 01 and the numbers of its refusals, each named once.
+-- The limits of document 01 and the numbers of its refusals and of document 02's, each named once.
 --   formFlags, ruleFlags     == the most flags of the transform, the way back and the listing, and of all other calls
 --   recordLimit, byteLimit   == the most records of an expression, and the bytes that suffice for a compiled one
---   wordBits                 == the coefficients in a word
---   tooManyFlags .. tooCostly    == the refusals' numbers, 1 to 13, by their conditions
+--   wordBits                 == the bits of a word: its coefficients, or its stars
+--   tooManyFlags .. fewWords     == the refusals' numbers, 1 to 14, by their conditions
 use Prim.Native.Nat.{ℕ}
 
 -- "above 16 (transform, way back, listing); above 6 (all others)"
@@ -63,3 +63,7 @@ differs = 12
 
 abbrev pub tooCostly : ℕ
 tooCostly = 13
+
+-- request 1: "It refuses with 14 .. when fewer than n words are lent"
+abbrev pub fewWords : ℕ
+fewWords = 14

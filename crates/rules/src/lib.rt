@@ -21,6 +21,8 @@ pub const SHORT_COEFFICIENTS: u64 = 3;
 
 pub const STRAY_COEFFICIENT: u64 = 4;
 
+pub const FEW_WORDS: u64 = 14;
+
 pub const BAD_SETTING: u64 = 11;
 
 pub const MANY_RECORDS: u64 = 9;

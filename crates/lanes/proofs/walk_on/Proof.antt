@@ -8,12 +8,12 @@ use lib.ListN.{length}
 use denote.Ref.{now}
 use borrow.Author.Needs.{needs}
 use Rattle.rules.specs.Limits.{recordLimit}
+use Rattle.rules.specs.Stars.{starValues}
 use Rattle.expr.specs.Answers.{kindOf}
 use Rattle.expr.proofs.Reader.{Read, read-index}
 use Rattle.expr.proofs.Walk.{walk-few, walk-many}
 use Rattle.expr.proofs.Turn.{turn-found, turn-end, turn-refused}
 use Rattle.expr.proofs.Costed.{Costed, costed-start, costed-less, costed-fits}
-use Rattle.lanes.specs.Lanes.{lanes}
 use Rattle.lanes.specs.Answers.{walkedOf}
 use Rattle.lanes.proofs.InLanes.{lanes-step, seen-refused, seen-end}
 use Rattle.lanes.proofs.walk_on.Statement.{statement}
@@ -21,7 +21,7 @@ use Rattle.lanes.proofs.walk_on.Tie as tie
 
 abbrev Inv-loop : tie.InvT-loop
 Inv-loop flags bytes words stack₀ ors₀ depth₀ place₀ count₀ saved₀ stack ors depth place count saved =
-    Costed (lanes flags words) flags bytes (length stack₀) count place depth stack ors saved
+    Costed (starValues flags words) flags bytes (length stack₀) count place depth stack ors saved
 
 abbrev μ-loop : tie.MeasureT-loop
 μ-loop flags bytes words stack₀ ors₀ depth₀ place₀ count₀ saved₀ stack ors depth place count saved =
@@ -30,7 +30,7 @@ abbrev μ-loop : tie.MeasureT-loop
 loop-holds : tie.Need-loop-holds Inv-loop μ-loop
 loop-holds c =
     let s = c .before .before .before .before in
-    costed-start (lanes (s .args .flags) (now (s .args .words))) (s .args .flags) (now (s .args .bytes)) _ _ _ refl (s .pre .3)
+    costed-start (starValues (s .args .flags) (now (s .args .words))) (s .args .flags) (now (s .args .bytes)) _ _ _ refl (s .pre .3)
 
 sub-finished : tie.Need-sub-finished Inv-loop μ-loop
 sub-finished c = costed-less (c .before .before .before .before .before .loop .inv)

@@ -3,7 +3,7 @@
 --   Numbered o               == a refusal of o has a number above 0
 --   numbered-made            == so for the reading of an expression
 --   numbered-transform, numbered-wayBack, numbered-listing, numbered-rawCosting, numbered-compile      == for the calls on tables and coefficients
---   numbered-read, numbered-evaluate, numbered-costing, numbered-examine                               == for those on expressions
+--   numbered-read, numbered-evaluate, numbered-evaluateStars, numbered-costing, numbered-examine       == for those on expressions
 --   both-tell                == number and result together tell such an outcome
 use mathlib.Core.Bool.{Bool, true, false, not}
 use mathlib.Core.List.{List, [], _∷_}
@@ -14,7 +14,7 @@ use native.Mathlib.Omega.{arith}
 use lib.Dec.{ltb, leb}
 use lib.ListN.{length}
 use Rattle.rules.specs.Calls.{withTable, withCoefficients, withRoom, fill, transform, wayBack, listing, rawCosting, compile}
-use Rattle.rules.specs.Calls.{read, parse, evaluate, costing, judged, examine, differences, tableForm}
+use Rattle.rules.specs.Calls.{read, parse, evaluate, evaluateStars, costing, judged, examine, differences, tableForm}
 use Rattle.rules.specs.Console.{number, result}
 use Rattle.rules.specs.Form.{rawCost}
 use Rattle.rules.specs.Coefficient.{wordCount, stray}
@@ -141,6 +141,12 @@ unfolding evaluate
 numbered-evaluate n s at =
     by-row (ltb ruleFlags n) _ _ _ (omega arith)
     (by-row (leb (2 ^ n) at) _ _ _ (omega arith) (by-step (made n s) _ (numbered-made n s) (λ t. tt)))
+
+pub numbered-evaluateStars : (n : ℕ) (ws s : List ℕ) → Numbered (evaluateStars n ws s)
+unfolding evaluateStars
+numbered-evaluateStars n ws s =
+    by-row (ltb ruleFlags n) _ _ _ (omega arith)
+    (by-row (ltb (length ws) n) _ _ _ (omega arith) (by-step (made n s) _ (numbered-made n s) (λ t. tt)))
 
 judged-row : (raw : ℕ) (t : Tree) (l : List ℕ) → Numbered (judged raw t l)
 unfolding judged

@@ -1,14 +1,16 @@
 -- What a given result tells of the rows and steps before it, and what a buffer holds after it. It rests on the two constructors of an outcome and on
 -- the laws of stores and of lists with an entry for each number (bits, Stores and Tabulated).
 --   gives-same       == results of one outcome are equal
+--   not-both         == no outcome is a result and a refusal
 --   refuse-gives     == a row that was passed does not hold, and the rest gave the result
 --   then-gives       == each of two steps gave a result
+--   then-refuses     == where the second step only computes, the first refused
 --   front-written    == the first entries of a buffer are what was written there
 --   length-front     == a buffer's front tells how long it is
 --   pick, pick-gives == a choice between two outcomes: one of them gave the result
 use mathlib.Core.Bool.{Bool, true, false}
 use mathlib.Core.List.{List}
-use mathlib.Core.Path.{_≡_, refl, sym, ap, _∙_}
+use mathlib.Core.Path.{_≡_, refl, sym, ap, ap₂, _∙_}
 use Prim.Native.Nat.{ℕ, _≤_}
 use native.Mathlib.Omega.{arith}
 use lib.ListN.{length, getD}
@@ -20,13 +22,20 @@ use Rattle.rules.specs.Outcome.{Outcome, gives, refuses, refuse, _then_, writte
 pub gives-same : {A : Type 0} {a b : A} → _≡_ {A = Outcome A} (gives a) (gives b) → a ≡ b
 gives-same e = cc
 
+pub not-both : {A : Type 0} {a : A} {k p : ℕ} → ¬ (gives a ≡ refuses k p)
+not-both e = let z : _≡_ {A = ℕ} 0 1 = cc in omega arith
+
 pub refuse-gives : {A : Type 0} (b : Bool) (k p : ℕ) (rest : Outcome A) (a : A) → refuse b k p rest ≡ gives a → (b ≡ false) × (rest ≡ gives a)
-refuse-gives true k p rest a e = let z : _≡_ {A = ℕ} 0 1 = cc in absurd (omega arith)
+refuse-gives true k p rest a e = absurd (not-both (sym e))
 refuse-gives false k p rest a e = (refl, e)
 
 pub then-gives : {A B : Type 0} (o : Outcome A) (f : A → Outcome B) (b : B) → (o then f) ≡ gives b → (a : A) × (o ≡ gives a) × (f a ≡ gives b)
 then-gives (gives a) f b e = (a, refl, e)
-then-gives (refuses k p) f b e = let z : _≡_ {A = ℕ} 0 1 = cc in absurd (omega arith)
+then-gives (refuses k p) f b e = absurd (not-both (sym e))
+
+pub then-refuses : {A B : Type 0} (o : Outcome A) (f : A → B) (k p : ℕ) → (o then (λ a. gives (f a))) ≡ refuses k p → o ≡ refuses k p
+then-refuses (gives a) f k p e = absurd (not-both e)
+then-refuses (refuses l q) f k p e = let x : l ≡ k = cc in let y : q ≡ p = cc in ap₂ refuses x y
 
 abbrev pub pick : {A : Type 0} → Bool → A → A → A
 pick b x y = elim b [ true ↦ x | false ↦ y ]
