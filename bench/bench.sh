@@ -1,6 +1,6 @@
 #!/bin/sh
-# Measures the library beside the original Rust, on the same inputs in one process, and writes the table of ratios, the growth of each call, its stack and
-# the code's size to docs/BENCHMARK.md.
+# Measures the library beside the original Rust, on the same inputs in one process, and writes the table of ratios, 64 stars in one call, the growth of
+# each call, its stack and the code's size to docs/BENCHMARK.md.
 # Use: bench/bench.sh RUST_DIR. It rests on oracle/build.sh, rustc, cc, size and rt.
 set -eu
 
@@ -22,6 +22,7 @@ trap 'exit 1' INT TERM
 rustc --edition 2021 -C opt-level=3 --crate-name bench --extern original="$scratch/liboriginal.rlib" -L "$scratch" \
     -L "$here/target/staticlib" -o "$scratch/bench" "$here/bench/main.rs"
 "$scratch/bench" >"$scratch/table.md"
+"$scratch/bench" stars >"$scratch/stars.md"
 "$scratch/bench" growth >"$scratch/growth.md"
 cc -O2 -std=c99 -Wall -Wextra -Werror -I"$here/include" "$here/bench/stack.c" "$here/target/staticlib/libguide_rules.a" -o "$scratch/stack"
 "$scratch/stack" >"$scratch/stack.md"
@@ -41,6 +42,8 @@ The original has no way back and no examiner: the first is compared with its tra
 
 END
     cat "$scratch/table.md"
+    printf '\n## Sixty-four stars in one call\n\nThe expressions of 60 random tables, each with random words of stars. The original evaluates its tree at 64 settings that stand in memory; the 64 single evaluations are calls of the library. Before they are measured, the values of all stars are compared with those of the original.\n\n'
+    cat "$scratch/stars.md"
     printf '\n## Growth\n\nOurs alone: the least of seven rounds, over random tables of that many flags, or one expression of that many records of six flags.\n\n'
     cat "$scratch/growth.md"
     printf '\n## Memory and code\n\nStack, by painting a stack of its own for each call and looking for the lowest byte that changed. No call allocates.\n\n'

@@ -9,6 +9,7 @@ extern "C" {
     fn rule_raw_cost(flags: u64, words: *const u64, count: u64, answer: *mut u64, answers: u64) -> u64;
     fn rule_compile(flags: u64, table: *const u64, entries: u64, out: *mut u8, room: u64, answer: *mut u64, answers: u64) -> u64;
     fn rule_evaluate(flags: u64, bytes: *const u8, length: u64, setting: u64, answer: *mut u64, answers: u64) -> u64;
+    fn rule_evaluate_stars(flags: u64, words: *const u64, count: u64, bytes: *const u8, length: u64, answer: *mut u64, answers: u64) -> u64;
     fn rule_cost(flags: u64, bytes: *const u8, length: u64, answer: *mut u64, answers: u64) -> u64;
     fn rule_examine(flags: u64, table: *const u64, entries: u64, bytes: *const u8, length: u64, answer: *mut u64, answers: u64) -> u64;
 }
@@ -41,6 +42,22 @@ pub fn compile(flags: usize, table: &[u64], out: &mut [u8]) -> u64 {
 
 pub fn evaluate(flags: usize, bytes: &[u8], setting: usize) -> u64 {
     answered(|a, k| unsafe { rule_evaluate(flags as u64, bytes.as_ptr(), bytes.len() as u64, setting as u64, a, k) })
+}
+
+/// The value at a setting; a refusal, which no expression of the benchmark has, stops the run.
+pub fn value(flags: usize, bytes: &[u8], setting: u64) -> u64 {
+    let mut answer = [0u64; 4];
+    let number = unsafe { rule_evaluate(flags as u64, bytes.as_ptr(), bytes.len() as u64, setting, answer.as_mut_ptr(), 4) };
+    assert_eq!(number, 0);
+    answer[0]
+}
+
+/// The word of values; a refusal, which no expression of the benchmark has, stops the run.
+pub fn evaluate_stars(flags: usize, words: &[u64], bytes: &[u8]) -> u64 {
+    let mut answer = [0u64; 4];
+    let number = unsafe { rule_evaluate_stars(flags as u64, words.as_ptr(), words.len() as u64, bytes.as_ptr(), bytes.len() as u64, answer.as_mut_ptr(), 4) };
+    assert_eq!(number, 0);
+    answer[0]
 }
 
 pub fn cost(flags: usize, bytes: &[u8]) -> u64 {

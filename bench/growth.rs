@@ -91,6 +91,9 @@ pub fn print(random: &mut Random) {
     over_records("evaluation", random, |_, b| {
         black_box(calls::evaluate(6, b, 37));
     });
+    over_records("64 stars", random, |t, b| {
+        black_box(calls::evaluate_stars(6, &t[..6], b));
+    });
     over_records("examination", random, |t, b| {
         black_box(calls::examine(6, t, b));
     });

@@ -7,6 +7,7 @@ use std::time::Instant;
 
 mod calls;
 mod growth;
+mod stars;
 
 use original::core::expr::{Expr, Kind};
 use original::core::expr_cost::compute_cost;
@@ -291,9 +292,10 @@ fn expressions(random: &mut Random) {
 
 fn main() {
     let mut random = Random(11);
-    if std::env::args().nth(1).as_deref() == Some("growth") {
-        growth::print(&mut random);
-        return;
+    match std::env::args().nth(1).as_deref() {
+        Some("growth") => return growth::print(&mut random),
+        Some("stars") => return stars::print(&mut random),
+        _ => {}
     }
     println!("| Call | Inputs | Original, ns | Ours, ns | Ratio of means | Ratio of slowest tenths |");
     println!("|---|---|---|---|---|---|");

@@ -26,6 +26,7 @@ static void listing(void) { rule_listing(FLAGS, words, SETTINGS / 64, masks, SET
 static void raw_cost(void) { rule_raw_cost(6, table, 1, answer, GUIDE_RULES_ANSWER_LIMIT); }
 static void costing(void) { rule_cost(6, bytes, length, answer, GUIDE_RULES_ANSWER_LIMIT); }
 static void evaluate(void) { rule_evaluate(6, bytes, length, 37, answer, GUIDE_RULES_ANSWER_LIMIT); }
+static void evaluate_stars(void) { rule_evaluate_stars(6, table, 6, bytes, length, answer, GUIDE_RULES_ANSWER_LIMIT); }
 static void examine(void) { rule_examine(6, table, 64, bytes, length, answer, GUIDE_RULES_ANSWER_LIMIT); }
 
 static size_t used(void (*call)(void))
@@ -82,6 +83,7 @@ int main(void)
         memcpy(bytes + length, "XO", 2), length += 2;
     row("costing", "385 records, 193 operands deep", used(costing));
     row("evaluation", "385 records, 193 operands deep", used(evaluate));
+    row("64 stars", "385 records, 193 operands deep", used(evaluate_stars));
     row("examination", "385 records, 193 operands deep", used(examine));
     return 0;
 }

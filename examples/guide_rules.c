@@ -3,7 +3,8 @@
 
    guide_rules.expected is worked by hand from document 01, not written by this program. Its marked row 00010111 gives word, records and costs; its
    definitions give the rest: word 104 has the bits 3, 5 and 6; five records of three bytes and four of two are 23 bytes; VA1 XO AN XO is a longest
-   way to the root; the raw form has 11 records; and the row 01111000 first differs from this one at setting 1. */
+   way to the root; the raw form has 11 records; and the row 01111000 first differs from this one at setting 1. Stars 0 to 7 have the settings 0 to 7
+   and the others setting 0, so by the table bits 3, 5, 6 and 7 of their word are 1, which is 232. */
 #include "guide_rules.h"
 
 #include <inttypes.h>
@@ -20,6 +21,9 @@ static const uint8_t raw[] = {'V', 'A', 0, 'V', 'A', 1, 'A', 'N', 'V', 'A', 0, '
 static const uint8_t other[] = {'V', 'A', 0, 'V', 'A', 1, 'O', 'R', 'V', 'A', 2, 'X', 'O'};
 static const uint8_t cut[] = {'V', 'A', 0, 'V', 'A', 1, 'O'};
 
+/* A word for each flag: star j, from 0 to 7, has the setting j. */
+static const uint64_t stars[FLAGS] = {0xaa, 0xcc, 0xf0};
+
 /* Every call by its documented type: a header that says otherwise does not compile. */
 static const struct {
     uint64_t (*transform)(uint64_t, const uint64_t *, uint64_t, uint64_t *, uint64_t, uint64_t *, uint64_t);
@@ -29,11 +33,13 @@ static const struct {
     uint64_t (*compile)(uint64_t, const uint64_t *, uint64_t, uint8_t *, uint64_t, uint64_t *, uint64_t);
     uint64_t (*read)(uint64_t, const uint8_t *, uint64_t, uint64_t, uint64_t *, uint64_t);
     uint64_t (*evaluate)(uint64_t, const uint8_t *, uint64_t, uint64_t, uint64_t *, uint64_t);
+    uint64_t (*evaluate_stars)(uint64_t, const uint64_t *, uint64_t, const uint8_t *, uint64_t, uint64_t *, uint64_t);
     uint64_t (*cost)(uint64_t, const uint8_t *, uint64_t, uint64_t *, uint64_t);
     uint64_t (*cheaper)(uint64_t, const uint8_t *, uint64_t, const uint8_t *, uint64_t);
     uint64_t (*examine)(uint64_t, const uint64_t *, uint64_t, const uint8_t *, uint64_t, uint64_t *, uint64_t);
 } documented = {
-    rule_transform, rule_way_back, rule_listing, rule_raw_cost, rule_compile, rule_read, rule_evaluate, rule_cost, rule_cheaper, rule_examine,
+    rule_transform, rule_way_back, rule_listing,        rule_raw_cost, rule_compile, rule_read,
+    rule_evaluate,  rule_evaluate_stars, rule_cost, rule_cheaper,  rule_examine,
 };
 
 /* Where the number is a refusal, says so. */
@@ -124,6 +130,16 @@ static void stars_asked(const uint8_t *bytes, uint64_t length)
     }
 }
 
+/* Of all stars at once. */
+static void words_asked(uint64_t words, const uint8_t *bytes, uint64_t length)
+{
+    uint64_t answer[GUIDE_RULES_ANSWER_LIMIT];
+
+    printf("64 stars in %" PRIu64 " words: ", words);
+    if (!refused(rule_evaluate_stars(FLAGS, stars, words, bytes, length, answer, GUIDE_RULES_ANSWER_LIMIT), answer))
+        printf("%" PRIu64 "\n", answer[0]);
+}
+
 int main(void)
 {
     static const char *const cheaper[] = {"refused", "compiled", "raw"};
@@ -145,8 +161,11 @@ int main(void)
     costs_told(compiled, length);
     printf("cheaper of compiled and raw: %s\n", cheaper[rule_cheaper(FLAGS, compiled, length, raw, sizeof raw)]);
     printf("cheaper of compiled and cut: %s\n", cheaper[rule_cheaper(FLAGS, compiled, length, cut, sizeof cut)]);
-    if (examined("compiled", compiled, length))
+    if (examined("compiled", compiled, length)) {
         stars_asked(compiled, length);
+        words_asked(FLAGS, compiled, length);
+        words_asked(FLAGS - 1, compiled, length);
+    }
     examined("raw", raw, sizeof raw);
     examined("other", other, sizeof other);
     examined("cut", cut, sizeof cut);

@@ -9,6 +9,7 @@
    coefficients  64-bit words; coefficient m is bit m mod 64 of word m div 64; 2^n / 64 words, rounded up, are needed, and words after these are
                  ignored. Coefficient m is the XOR of the table's bits at all settings whose set bits lie in m
    monomial      a nonzero mask of flags whose coefficient is 1; coefficient 0 is the constant
+   stars         64 of them in 64-bit words, one for each flag: bit j of word i is flag i of star j; words after the first n are ignored
    expression    bytes: postfix records, each with a two-byte ASCII mark: CO and one byte, 0 or 1; VA and one byte, a flag's index below n; AN, OR,
                  XO, which take two operands, the first first; NO, which takes one. It is well formed if it has 1 to 385 records, no operator lacks
                  operands, and one operand is left at the end
@@ -34,6 +35,7 @@
       3       fewer words of coefficients than needed                                       0
       4       a coefficient of 1 at 2^n or above in the needed words                        0
      11       a setting of 2^n or more                                                      0
+     14       fewer than n words of stars                                                   0
       9       a 386th record begins                                                         its first byte
       6       one byte left, or an unknown mark                                             the record's first byte
       7       a payload that is absent, a constant above 1, an index of n or more           the record's first byte
@@ -65,7 +67,7 @@ extern "C" {
 #endif
 
 enum guide_rules_limit {
-    GUIDE_RULES_FLAG_LIMIT = 6,       /* flags, of the seven other calls */
+    GUIDE_RULES_FLAG_LIMIT = 6,       /* flags, of the eight other calls */
     GUIDE_RULES_FORM_FLAG_LIMIT = 16, /* flags, of rule_transform, rule_way_back and rule_listing */
     GUIDE_RULES_RECORD_LIMIT = 385,   /* records of a well-formed expression */
     GUIDE_RULES_BYTE_LIMIT = 963,     /* bytes of a compiled expression */
@@ -86,7 +88,8 @@ enum guide_rules_refusal {
     GUIDE_RULES_BAD_END = 10,
     GUIDE_RULES_BAD_SETTING = 11,
     GUIDE_RULES_DIFFERS = 12,
-    GUIDE_RULES_TOO_COSTLY = 13
+    GUIDE_RULES_TOO_COSTLY = 13,
+    GUIDE_RULES_FEW_WORDS = 14
 };
 
 /* What rule_read finds. */
@@ -142,6 +145,11 @@ uint64_t rule_read(uint64_t flags, const uint8_t *bytes, uint64_t length, uint64
 /* The value at one setting.
    Refuses by 1 (6 flags), 11, then 9, 6, 7, 8 record by record, then 10. Result: the value, 0 or 1. */
 uint64_t rule_evaluate(uint64_t flags, const uint8_t *bytes, uint64_t length, uint64_t setting, uint64_t *answer, uint64_t answers);
+
+/* The values for 64 stars: bit j of the result is the value at the setting of star j, whose bit i is bit j of word i. A constant 1 has all ones.
+   Refuses by 1 (6 flags), 14, then 9, 6, 7, 8 record by record, then 10. Result: the word of values. */
+uint64_t rule_evaluate_stars(uint64_t flags, const uint64_t *words, uint64_t count, const uint8_t *bytes, uint64_t length, uint64_t *answer,
+                             uint64_t answers);
 
 /* The costs of an expression.
    Refuses by 1 (6 flags), then 9, 6, 7, 8 record by record, then 10. Results: cost; size; depth. */

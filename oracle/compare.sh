@@ -10,7 +10,7 @@ if [ -z "$rust" ]; then
     exit 2
 fi
 if ! command -v python3 >/dev/null 2>&1; then
-    echo "compare: python3 is not installed; it makes the files from print, from sympy and from document 01" >&2
+    echo "compare: python3 is not installed; it makes the files from print, from sympy and from the documents" >&2
     exit 2
 fi
 
@@ -67,6 +67,10 @@ compare replay_expressions wrong_listings.bin
 python3 "$here/expression_cases.py" "$scratch/made"
 compare replay_expressions cases.bin
 compare replay_expressions wrong_cases.bin
+
+python3 -B "$here/star_cases.py" "$scratch/made"
+compare replay_expressions stars.bin
+compare replay_expressions wrong_stars.bin
 
 python3 "$here/printed_transforms.py" "$scratch/made"
 compare replay_transforms printed.bin

@@ -5,6 +5,7 @@
     guide_rules.show(rule.expression)                        # 'VA0 VA1 VA2 XO AN VA1 VA2 AN XO'
     guide_rules.examine(3, "00010111", rule.expression)      # 9, its cost
     guide_rules.evaluate(3, rule.expression, 0b101)          # 1: flags 0 and 2 are set
+    guide_rules.evaluate_stars(3, [0b1010, 0b1100, 0b0110], rule.expression)   # 0b1110: of four stars all but star 0
 
 A table is a string of digits 0 and 1, digit i for setting i, or a sequence of ints, of which bit 0 counts. Coefficients are a
 sequence of 64-bit words, an expression is bytes or anything bytes-like. What a call refuses it raises as Refusal; a number that
@@ -26,7 +27,8 @@ from typing import List, NamedTuple, Optional, Sequence, TypeVar, Union
 __all__ = [
     "FLAG_LIMIT", "FORM_FLAG_LIMIT", "RECORD_LIMIT", "BYTE_LIMIT",
     "Refusal", "Listing", "Compilation", "Record", "Costs",
-    "transform", "way_back", "listing", "raw_cost", "compile", "read", "records", "evaluate", "cost", "cheaper", "examine",
+    "transform", "way_back", "listing", "raw_cost", "compile", "read", "records", "evaluate", "evaluate_stars", "cost", "cheaper",
+    "examine",
     "show", "parse",
 ]
 
@@ -39,7 +41,7 @@ Table = Union[str, Sequence[int]]
 Expression = Union[bytes, bytearray, memoryview]
 AnyExpression = TypeVar("AnyExpression", bound=Expression)
 
-# document 01's refusals: the condition, and what the place is where it is not always 0
+# the refusals, by document 01 and its change requests: the condition, and what the place is where it is not always 0
 _ROWS = {
     1: ("more than 16 flags (transform, way back, listing) or more than 6 (all others)", None),
     2: ("the table has fewer than 2^flags entries", None),
@@ -54,11 +56,12 @@ _ROWS = {
     11: ("the setting is 2^flags or more", None),
     12: ("differs from the table", "the smallest such setting"),
     13: ("the cost is above the raw cost", "the cost"),
+    14: ("fewer words of stars than flags", None),
 }
 
 
 class Refusal(Exception):
-    """A call refused: by which number of document 01's table, at which place, and the row's words."""
+    """A call refused: by which number, at which place, and the row's words."""
 
     def __init__(self, number: int, place: int) -> None:
         super().__init__(number, place)
@@ -122,6 +125,7 @@ _ARGUMENTS = {
     "rule_compile": (_number, _numbers, _number, _writable, _number, *_answer),
     "rule_read": (_number, _bytes, _number, _number, *_answer),
     "rule_evaluate": (_number, _bytes, _number, _number, *_answer),
+    "rule_evaluate_stars": (_number, _numbers, _number, _bytes, _number, *_answer),
     "rule_cost": (_number, _bytes, _number, *_answer),
     "rule_cheaper": (_number, _bytes, _number, _bytes, _number),
     "rule_examine": (_number, _numbers, _number, _bytes, _number, *_answer),
@@ -166,10 +170,10 @@ def _table(table: Table) -> List[int]:
     return [int(digit) for digit in table]
 
 
-def _words(coefficients: Sequence[int]) -> List[int]:
-    if isinstance(coefficients, str):
-        raise TypeError("coefficients are a sequence of ints, not a string")
-    return _entries(coefficients, "coefficient word")
+def _words(words: Sequence[int], name: str = "coefficient word") -> List[int]:
+    if isinstance(words, str):
+        raise TypeError(f"a sequence of ints, one for each {name}, not a string")
+    return _entries(words, name)
 
 
 def _lent(kind, count: int, values: Sequence[int] = ()):
@@ -268,6 +272,12 @@ def evaluate(flags: int, expression: Expression, setting: int) -> int:
     """The expression's value, 0 or 1, at a setting, whose bit i is flag i."""
     data = _of(expression)
     return _call("rule_evaluate", _fitting(flags, "flags"), data, len(data), _fitting(setting, "setting"))[0]
+
+
+def evaluate_stars(flags: int, stars: Sequence[int], expression: Expression) -> int:
+    """The expression's values for 64 stars as one word, bit j for star j; bit j of word i of the stars is flag i of star j."""
+    words, data = _words(stars, "word of stars"), _of(expression)
+    return _call("rule_evaluate_stars", _fitting(flags, "flags"), *_numbers_of(words), data, len(data))[0]
 
 
 def cost(flags: int, expression: Expression) -> Costs:

@@ -94,6 +94,39 @@ class Rules(unittest.TestCase):
         self.refused(7, 0, guide_rules.records, 0, expression)
         self.assertEqual(guide_rules.records(1, parse("AN")), [("AN", None, 2)])
 
+    def test_stars(self):
+        # worked by hand: flag 0 is set for the stars 2 and 3, flag 1 for the stars 1, 3 and 63
+        words, all_stars = [12, 10 + (1 << 63)], TOO_LARGE - 1
+        for text, values in (
+            ("CO0", 0),
+            ("CO1", all_stars),
+            ("VA0", 12),
+            ("VA1", 10 + (1 << 63)),
+            ("VA0 VA1 AN", 8),
+            ("VA0 VA1 OR", 14 + (1 << 63)),
+            ("VA0 VA1 XO", 6 + (1 << 63)),
+            ("VA0 NO", all_stars - 12),
+        ):
+            for lent in (words, tuple(words), words + [all_stars]):
+                self.assertEqual(guide_rules.evaluate_stars(2, lent, parse(text)), values)
+        self.assertEqual(guide_rules.evaluate_stars(0, [], parse("CO1")), all_stars)
+        # the stars' settings in turn: a rule's word is then its table, setting s at bit s
+        settings = [sum((s >> i & 1) << s for s in range(8)) for i in range(3)]
+        for bits, _, text, _, _ in MARKED:
+            if len(bits) == 8:
+                table = sum(int(digit) << s for s, digit in enumerate(bits))
+                self.assertEqual(guide_rules.evaluate_stars(3, settings, parse(text)) & 255, table)
+        # 14 comes after 1 and before the records
+        self.refused(1, 0, guide_rules.evaluate_stars, 7, [], b"")
+        self.refused(14, 0, guide_rules.evaluate_stars, 2, [12], b"?")
+        self.refused(14, 0, guide_rules.evaluate_stars, 1, [], parse("CO1"))
+        self.refused(6, 0, guide_rules.evaluate_stars, 1, [12], b"?")
+        self.refused(7, 3, guide_rules.evaluate_stars, 1, words, parse("VA0 VA1 AN"))
+        self.refused(10, 6, guide_rules.evaluate_stars, 2, words, parse("VA0 VA1"))
+        with self.assertRaises(Refusal) as caught:
+            guide_rules.evaluate_stars(2, [12], b"")
+        self.assertEqual(str(caught.exception), "refused by 14: fewer words of stars than flags")
+
     def test_costs_and_cheaper(self):
         # worked by hand: an OR is discounted for its first operand alone
         left, right = parse("VA0 VA1 OR VA2 OR"), parse("VA0 VA1 VA2 OR OR")
@@ -159,6 +192,8 @@ class Rules(unittest.TestCase):
                 (guide_rules.compile, (1, [0, bad])),
                 (guide_rules.read, (0, b"", bad)),
                 (guide_rules.evaluate, (0, b"CO\0", bad)),
+                (guide_rules.evaluate_stars, (bad, [], b"CO\0")),
+                (guide_rules.evaluate_stars, (0, [bad], b"CO\0")),
                 (guide_rules.cost, (bad, b"CO\0")),
                 (guide_rules.cheaper, (bad, b"CO\0", b"CO\0")),
                 (guide_rules.examine, (0, [bad], b"CO\0")),
@@ -176,6 +211,8 @@ class Rules(unittest.TestCase):
             (guide_rules.compile, (0, 0)),
             (guide_rules.compile, ("0", "0")),
             (guide_rules.way_back, (0, "1")),
+            (guide_rules.evaluate_stars, (0, "1", b"CO\0")),
+            (guide_rules.evaluate_stars, (0, b"1", b"CO\0")),
             (guide_rules.cost, (0, "CO0")),
             (guide_rules.cost, (0, 5)),
             (guide_rules.cost, (0, None)),

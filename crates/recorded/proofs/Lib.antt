@@ -1,2 +1,3 @@
+pub mod Injective
 pub mod Filled
 pub mod Part

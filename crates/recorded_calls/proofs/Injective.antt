@@ -1,6 +1,6 @@
 -- Equal numbers have equal outcomes, so what a replay compares tells a result from a refusal. It rests on the definitions of specs/Answers.
---   numberOf-injective, costedOf-injective == the outcomes of the calls that give a number, and of costing
---   readOf-injective                       == the outcomes of reading
+--   costedOf-injective   == the outcomes of costing
+--   readOf-injective     == the outcomes of reading
 use mathlib.Core.Bool.{Bool, true, false}
 use mathlib.Core.Option.{Option, none, some}
 use mathlib.Core.Path.{_≡_, refl, ap}
@@ -15,18 +15,7 @@ use Rattle.rules.specs.Outcome as result
 use Rattle.rules.specs.Outcome.{gives, refuses}
 use Rattle.rules.specs.Record.{Kind, Found, Constant, Flag, And, Or, Xor, Not}
 use Rattle.comparison.specs.declared.outcome.Outcome.{Outcome}
-use Rattle.recorded_calls.specs.Answers.{codeOf, readOf, numberOf, costedOf}
-
-abbrev number : Bool → Outcome → result.Outcome ℕ
-number true o = refuses (o .number) (o .first)
-number false o = gives (o .first)
-
-number-of : (o : result.Outcome ℕ) → number (numberOf o .refused) (numberOf o) ≡ o
-number-of (gives x) = refl
-number-of (refuses k p) = refl
-
-pub numberOf-injective : (o q : result.Outcome ℕ) → numberOf o ≡ numberOf q → o ≡ q
-numberOf-injective = told-apart numberOf (λ o. number (o .refused) o) number-of
+use Rattle.recorded_calls.specs.Answers.{codeOf, readOf, costedOf}
 
 abbrev costs : Bool → Outcome → result.Outcome Costs
 costs true o = refuses (o .number) (o .first)

@@ -13,8 +13,9 @@ use Rattle.rules.specs.Calls.{examine, rawCosting}
 use Rattle.comparison.specs.declared.outcome.Outcome.{Outcome}
 use Rattle.recorded.specs.Noise.{noisy}
 use Rattle.recorded.specs.Numbers.{wordAt}
+use Rattle.recorded.specs.Results.{numberOf}
 use Rattle.recorded.proofs.Part.{part-tabulated}
-use Rattle.recorded_calls.specs.Answers.{damage, numberOf, within, examined, rawCosted}
+use Rattle.recorded_calls.specs.Answers.{damage, within, examined, rawCosted}
 
 within-past : (k : ℕ) (o : Outcome) → 128 < k → damage ≡ within k o
 unfolding within

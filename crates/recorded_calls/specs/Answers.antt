@@ -2,7 +2,6 @@
 --   damage               == what no file records
 --   codeOf k             == a record's number; past 255 for a flag that no rule has
 --   readOf o             == of reading: the record's number and the next place, or 255 at the end
---   numberOf o           == of a call that gives one number
 --   costedOf o           == of costing: cost, size and depth
 --   within k o           == o, where at most 128 entries are lent
 --   examined n k b s     == the examination of the bytes s against a table of k entries whose lowest bits are those of b
@@ -27,6 +26,7 @@ use Rattle.comparison.specs.Outcome.{results, refusal}
 use Rattle.comparison.specs.declared.outcome.Outcome.{Outcome}
 use Rattle.recorded.specs.Noise.{noisy}
 use Rattle.recorded.specs.Numbers.{halfAt, wordAt}
+use Rattle.recorded.specs.Results.{numberOf}
 
 abbrev pub damage : Outcome
 damage = refusal 256 0
@@ -43,10 +43,6 @@ abbrev pub readOf : result.Outcome (Option Found) → Outcome
 readOf (gives (some r)) = results (codeOf (r .kind)) (r .next) 0 0
 readOf (gives none) = results 255 0 0 0
 readOf (refuses k p) = refusal k p
-
-abbrev pub numberOf : result.Outcome ℕ → Outcome
-numberOf (gives x) = results x 0 0 0
-numberOf (refuses k p) = refusal k p
 
 abbrev pub costedOf : result.Outcome Costs → Outcome
 costedOf (gives c) = results (c .cost) (c .size) (c .depth) 0

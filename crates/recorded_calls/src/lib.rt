@@ -30,7 +30,8 @@ ghost use Rattle.rules.specs.Outcome.{gives};
 ghost use Rattle.rules.specs.Record.{Flag};
 ghost use Rattle.expr.specs.Answers.{kindOf};
 ghost use Rattle.comparison.specs.Outcome.{refusal as refusalOf};
-ghost use Rattle.recorded_calls.specs.Answers.{codeOf, readOf, numberOf, costedOf, examined, rawCosted, chosen, preferred};
+ghost use Rattle.recorded.specs.Results.{numberOf};
+ghost use Rattle.recorded_calls.specs.Answers.{codeOf, readOf, costedOf, examined, rawCosted, chosen, preferred};
 
 fn refused(refusal: Refusal) -> Outcome
     ensures { λ r. ⌜ r ≡ refusalOf (refusal .number) (refusal .place) ⌝ }

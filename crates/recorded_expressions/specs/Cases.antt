@@ -19,8 +19,8 @@ use Rattle.rules.specs.Limits.{ruleFlags}
 use Rattle.comparison.specs.Outcome.{results, sameOutcome}
 use Rattle.comparison.specs.declared.outcome.Outcome.{Outcome}
 use Rattle.recorded.specs.Numbers.{pairAt, wordAt}
-use Rattle.recorded.specs.Results.{outcomeAt}
-use Rattle.recorded_calls.specs.Answers.{damage, readOf, numberOf, costedOf, examined, rawCosted, chosen, preferred}
+use Rattle.recorded.specs.Results.{outcomeAt, numberOf}
+use Rattle.recorded_calls.specs.Answers.{damage, readOf, costedOf, examined, rawCosted, chosen, preferred}
 
 abbrev pub wordOf : List ℕ → List ℕ
 wordOf h = take 8 (drop 19 h)

@@ -4,6 +4,7 @@ use crate::cases;
 use crate::choices;
 use crate::costs;
 use crate::listings;
+use crate::stars;
 use comparison::tally;
 use comparison::tally::Tally;
 use recorded_listings::Asked;
@@ -15,6 +16,7 @@ pub enum Item {
     Case,
     WrongNumber,
     WrongResult,
+    Stars,
     Costs,
     Choice,
     Listing,
@@ -27,6 +29,7 @@ fn head_size(item: Item) -> usize {
         Item::Case => 38,
         Item::WrongNumber => 38,
         Item::WrongResult => 38,
+        Item::Stars => 20,
         Item::Costs => 8,
         Item::Choice => 21,
         Item::Listing => 4,
@@ -44,6 +47,7 @@ fn is_same(item: Item, fd: i32, head: &[u8]) -> bool {
         Item::Case => cases::is_same(fd, head, 0, 0),
         Item::WrongNumber => cases::is_same(fd, head, 1, 0),
         Item::WrongResult => cases::is_same(fd, head, 0, 1),
+        Item::Stars => stars::is_same(fd, head),
         Item::Costs => costs::is_same(fd, head),
         Item::Choice => choices::is_same(fd, head),
         Item::Listing => is_same_form(fd, head, FORM_FLAGS + 1, 1),

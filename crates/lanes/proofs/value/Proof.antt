@@ -1,5 +1,6 @@
 -- `lanes::value` meets its contract: each arm is told the kind, and with it `applied` is the arm's operation. A flag's index is below the
 -- number of words by the `requires`.
+use native.Mathlib.Omega.{arith}
 use borrow.Author.Needs.{needs}
 use Rattle.lanes.proofs.value.Statement.{statement}
 use Rattle.lanes.proofs.value.Tie as tie
@@ -20,7 +21,7 @@ mul-result : tie.Need-mul-result
 mul-result c = search needs
 
 shared-slice-read-result : tie.Need-shared-slice-read-result
-shared-slice-read-result c = rw (c .before .before .kind2 .given .1) at (c .before .before .before .before .before .pre)
+shared-slice-read-result c = omega (arith, rw (c .before .before .kind2 .given .1) at (c .before .before .before .before .before .pre))
 
 enum-told : tie.Need-enum-told
 enum-told c = search needs

@@ -3,7 +3,7 @@ use mathlib.Core.Path.{sym, ap, _∙_}
 use borrow.Author.Needs.{needs}
 use Rattle.evaluation.specs.Answers.{evaluationOf}
 use Rattle.evaluation.specs.declared.Evaluation.{Evaluation}
-use Rattle.recorded_calls.specs.Answers.{numberOf}
+use Rattle.recorded.specs.Results.{numberOf}
 use Rattle.recorded_calls.proofs.evaluation.Statement.{statement}
 use Rattle.recorded_calls.proofs.evaluation.Tie as tie
 

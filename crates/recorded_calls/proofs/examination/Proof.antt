@@ -3,7 +3,7 @@ use mathlib.Core.Path.{sym, ap, _∙_}
 use borrow.Author.Needs.{needs}
 use Rattle.examiner.specs.Answers.{examinationOf}
 use Rattle.examiner.specs.declared.Examination.{Examination}
-use Rattle.recorded_calls.specs.Answers.{numberOf}
+use Rattle.recorded.specs.Results.{numberOf}
 use Rattle.recorded_calls.proofs.Lent.{examined-past, examined-said}
 use Rattle.recorded_calls.proofs.examination.Statement.{statement}
 use Rattle.recorded_calls.proofs.examination.Tie as tie

@@ -3,7 +3,7 @@ use mathlib.Core.Path.{sym, ap, _∙_}
 use borrow.Author.Needs.{needs}
 use Rattle.anf_form.specs.Answers.{rawCostOf}
 use Rattle.anf_form.specs.declared.RawCost.{RawCost}
-use Rattle.recorded_calls.specs.Answers.{numberOf}
+use Rattle.recorded.specs.Results.{numberOf}
 use Rattle.recorded_calls.proofs.Lent.{raw-past, raw-said}
 use Rattle.recorded_calls.proofs.raw_costing.Statement.{statement}
 use Rattle.recorded_calls.proofs.raw_costing.Tie as tie
