@@ -1,5 +1,6 @@
 -- `stars::evaluate_stars` meets its contract: its two tests are the rows 1 and 14, and what the walk answers is the rest. From the laws of Walked.
 use mathlib.Core.Path.{_≡_, sym, ap, _∙_}
+use native.Mathlib.Omega.{arith}
 use denote.Ref.{now}
 use borrow.Author.Needs.{needs}
 use Rattle.rules.specs.Calls.{evaluateStars}
@@ -16,7 +17,7 @@ returns : tie.Need-returns
 returns c = ap starEvaluationOf (c .refused .ensures) ∙ sym (stars-many _ _ _ (c .before .if1 .taken))
 
 returns-2 : tie.Need-returns-2
-returns-2 c = ap starEvaluationOf (c .refused2 .ensures) ∙ sym (stars-few _ _ _ (c .before .before .if1 .left) (c .before .if2 .taken))
+returns-2 c = ap starEvaluationOf (c .refused2 .ensures) ∙ sym (stars-few _ _ _ (c .before .before .if1 .left) (omega arith))
 
 -- where the call began
 abbrev start : tie.After-walk → tie.Start
@@ -27,7 +28,7 @@ told : (c : tie.After-walk) (w : Walked) → c .walk .result ≡ w
     → (let a = start c .args in evaluateStars (a .flags) (now (a .words)) (now (a .bytes)) ≡ walkedOf w then (λ (v : Seen). gives (v .values)))
 told c w e =
     let past = c .before in
-    stars-walked _ _ _ (past .before .if1 .left) (past .if2 .left)
+    stars-walked _ _ _ (past .before .if1 .left) (omega arith)
     ∙ ap (λ (o : Outcome Seen). o then (λ v. gives (v .values))) (sym (ap walkedOf (sym e) ∙ c .walk .ensures))
 
 returns-3 : tie.Need-returns-3
