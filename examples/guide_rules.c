@@ -38,8 +38,8 @@ static const struct {
     uint64_t (*cheaper)(uint64_t, const uint8_t *, uint64_t, const uint8_t *, uint64_t);
     uint64_t (*examine)(uint64_t, const uint64_t *, uint64_t, const uint8_t *, uint64_t, uint64_t *, uint64_t);
 } documented = {
-    rule_transform, rule_way_back, rule_listing,        rule_raw_cost, rule_compile, rule_read,
-    rule_evaluate,  rule_evaluate_stars, rule_cost, rule_cheaper,  rule_examine,
+    rule_transform, rule_way_back,       rule_listing, rule_raw_cost, rule_compile, rule_read,
+    rule_evaluate,  rule_evaluate_stars, rule_cost,    rule_cheaper,  rule_examine,
 };
 
 /* Where the number is a refusal, says so. */

@@ -50,6 +50,20 @@ pub fn walk(flags: usize, bytes: &[u8], words: &[u64]) -> Walked
     }
 }
 
+// `walk` once more, for the evaluation of 64 stars: with one caller each becomes a part of it, which saves some 10 ns a call.
+pub fn walk_stars(flags: usize, bytes: &[u8], words: &[u64]) -> Walked
+    requires { ⌜ (flags ≤ ruleFlags) × (flags ≤ length (now words)) ⌝ }
+    ensures { λ r. ⌜ walkedOf r ≡ seen flags (now (bytes .entry)) (now (words .entry)) ⌝ }
+{
+    let mut stack = [0u64; 24];
+    let mut ors = [false; 24];
+    let attempt = walk_on(flags, bytes, words, &mut stack, &mut ors);
+    match attempt {
+        Attempt::Done(walked) => walked,
+        Attempt::Full => walk_deep(flags, bytes, words),
+    }
+}
+
 // The same for an expression that is known to fill a short stack: over one that none fills. It has an entry more than there may be records, so the
 // refusal here is never given.
 pub fn walk_deep(flags: usize, bytes: &[u8], words: &[u64]) -> Walked

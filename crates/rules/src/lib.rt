@@ -1,6 +1,6 @@
-// Document 01 as mathematics: specs/ has every definition that a promise cites, each beside the sentence that it renders, and proofs/ computes
-// the document's own examples with them. The only code is what every call shares: the limits, and the refusal that an answer can hold. It rests
-// on `bits`.
+// The documents as mathematics: specs/ has every definition of document 01, and of the requests of document 02 that are made, each beside the
+// sentence that it renders, and proofs/ computes the documents' own examples with them. The only code is what every call shares: the limits, and
+// the refusal that an answer can hold. It rests on `bits`.
 
 // Limits: flags of a form (transform, way back, listing) and of a rule (all other calls), the records of an expression,
 // and the bytes that always suffice for one that is compiled.
@@ -12,7 +12,7 @@ pub const RECORD_LIMIT: usize = 385;
 
 pub const BYTE_LIMIT: usize = 963;
 
-// The numbers of the refusals, in the order of document 01's table.
+// The numbers of the refusals, in the order of the checks: that of document 01's table, with request 1's 14 before the records.
 pub const TOO_MANY_FLAGS: u64 = 1;
 
 pub const SHORT_TABLE: u64 = 2;

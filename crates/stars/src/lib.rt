@@ -1,5 +1,5 @@
 // Evaluation of an expression for 64 stars at once: a word for each flag, in which bit j is star j's, and a word of values. After its two checks it
-// is the walk that the examiner uses. It rests on `lanes`.
+// is the walk over the records that the examiner makes. It rests on `lanes`.
 use lanes::Walked;
 use rules::FEW_WORDS;
 use rules::RULE_FLAGS;
@@ -31,7 +31,7 @@ pub fn evaluate_stars(flags: usize, words: &[u64], bytes: &[u8]) -> StarEvaluati
     if words.len() < flags {
         return refused(FEW_WORDS, 0);
     }
-    let walked = lanes::walk(flags, bytes, words);
+    let walked = lanes::walk_stars(flags, bytes, words);
     match walked {
         Walked::Values(seen) => StarEvaluation::Values(seen.values),
         Walked::Refused(refusal) => StarEvaluation::Refused(refusal),

@@ -20,16 +20,16 @@ returns-2 : tie.Need-returns-2
 returns-2 c = ap starEvaluationOf (c .refused2 .ensures) ∙ sym (stars-few _ _ _ (c .before .before .if1 .left) (omega arith))
 
 -- where the call began
-abbrev start : tie.After-walk → tie.Start
+abbrev start : tie.After-walk-stars → tie.Start
 start c = c .before .before .before .before .before
 
 -- the call on paper from what the walk answered
-told : (c : tie.After-walk) (w : Walked) → c .walk .result ≡ w
+told : (c : tie.After-walk-stars) (w : Walked) → c .walk-stars .result ≡ w
     → (let a = start c .args in evaluateStars (a .flags) (now (a .words)) (now (a .bytes)) ≡ walkedOf w then (λ (v : Seen). gives (v .values)))
 told c w e =
     let past = c .before in
     stars-walked _ _ _ (past .before .if1 .left) (omega arith)
-    ∙ ap (λ (o : Outcome Seen). o then (λ v. gives (v .values))) (sym (ap walkedOf (sym e) ∙ c .walk .ensures))
+    ∙ ap (λ (o : Outcome Seen). o then (λ v. gives (v .values))) (sym (ap walkedOf (sym e) ∙ c .walk-stars .ensures))
 
 returns-3 : tie.Need-returns-3
 returns-3 c = sym (told (c .before .before .before) _ (c .before .walked .given .1))
