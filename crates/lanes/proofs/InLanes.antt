@@ -13,7 +13,7 @@ use lib.Bits.{bitAnd, bitOr, bitXor, and-le-l, or-lt, xor-lt}
 use lib.Dec.{lit<, lit≤}
 use lib.ListN.{length, getD, set}
 use mir.Val.{boolByte}
-use Rattle.bits.specs.Bit.{_⊕_, bit}
+use Rattle.bits.specs.Bit.{_⊕_}
 use Rattle.bits.proofs.Bit.{bit-and, bit-or, bit-xor, bit-not, bit-zero}
 use Rattle.rules.specs.Limits.{recordLimit}
 use Rattle.rules.specs.Machine.{made}

@@ -1,6 +1,6 @@
-// One evaluation of stars.bin: the flag count, the words of the flags, an expression, and the values for 64 stars that document 02 gives it, or the
-// refusal. It rests on the call; the promise says that what is compared is the call on paper that the head's bytes ask. `replay_expressions` reads the
-// file; its data folder has the format.
+// One evaluation of stars.bin: the flag count, the words of the flags, an expression, and the values for 64 stars that the documents give it, or the
+// refusal. It rests on the call; the promise says that what is compared is the call on paper that the head's bytes ask. `replay_expressions` reads
+// the file; its data folder has the format.
 use comparison::outcome;
 use comparison::outcome::Outcome;
 use comparison::outcome::given;

@@ -22,8 +22,8 @@ use Rattle.bits.specs.Range.{keep}
 use Rattle.rules.specs.Cleanup.{cleanup}
 use Rattle.rules.specs.Coefficient.{coefficient, wordCount, packed, stray, words}
 use Rattle.rules.specs.Form.{rawCost}
-use Rattle.rules.specs.Limits.{formFlags, ruleFlags}
-use Rattle.rules.specs.Limits.{tooManyFlags, shortTable, shortCoefficients, strayCoefficient, shortOutput, badSetting, differs, tooCostly, fewWords}
+use Rattle.rules.specs.Limits.{formFlags, ruleFlags, tooManyFlags, shortTable, shortCoefficients, strayCoefficient, shortOutput}
+use Rattle.rules.specs.Limits.{badSetting, fewWords, differs, tooCostly}
 use Rattle.rules.specs.Machine.{made}
 use Rattle.rules.specs.Monomial.{form, constant, monomials, ordered}
 use Rattle.rules.specs.Outcome.{Outcome, gives, refuses, refuse, _then_}

@@ -6,7 +6,8 @@ use Rattle.recorded_stars.proofs.agrees.Tie as tie
 returns : tie.Need-returns
 returns c =
     let asked = c .before .before in
-    rw (c .is-same .ensures, asked .asked .ensures, c .before .expected .ensures, asked .before .byte-at .ensures .0, asked .before .before .word-at .ensures)
+    let count = asked .before in
+    rw (c .is-same .ensures, asked .asked .ensures, c .before .expected .ensures, count .byte-at .ensures .0, count .before .word-at .ensures)
 
 pub agrees-spec : {M : Type 1} → statement M
 agrees-spec =

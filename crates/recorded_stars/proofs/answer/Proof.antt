@@ -11,13 +11,15 @@ returns : tie.Need-returns
 returns c =
     let arm = c .before .before in
     c .given .ensures
-    ∙ sym (ap (λ (a : StarEvaluation). numberOf (starEvaluationOf a)) (arm .answer .given .1)) ∙ ap numberOf (arm .before .before .evaluate-stars .ensures)
+    ∙ sym (ap (λ (a : StarEvaluation). numberOf (starEvaluationOf a)) (arm .answer .given .1))
+    ∙ ap numberOf (arm .before .before .evaluate-stars .ensures)
 
 returns-2 : tie.Need-returns-2
 returns-2 c =
     let arm = c .before .before in
     c .refused .ensures
-    ∙ sym (ap (λ (a : StarEvaluation). numberOf (starEvaluationOf a)) (arm .answer2 .given .1)) ∙ ap numberOf (arm .before .before .evaluate-stars .ensures)
+    ∙ sym (ap (λ (a : StarEvaluation). numberOf (starEvaluationOf a)) (arm .answer2 .given .1))
+    ∙ ap numberOf (arm .before .before .evaluate-stars .ensures)
 
 pub answer-spec : {M : Type 1} → statement M
 answer-spec =

@@ -20,4 +20,7 @@ returns c =
     (part-tabulated {n = 256} (omega arith) (λ i. wordAt (a .lent .now) (8 * i)) (set .set-words .ensures))
 
 pub asked-spec : {M : Type 1} → statement M
-asked-spec = tie.close (tie.spec (λ c. search needs) (λ c κs. search needs) (λ c. search needs) (λ c. search needs) (λ c. search needs) (λ c κs. search needs) returns)
+asked-spec =
+    tie.close
+    (tie.spec (λ c. search needs) (λ c κs. search needs) (λ c. search needs) (λ c. search needs) (λ c. search needs) (λ c κs. search needs)
+    returns)
