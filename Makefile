@@ -23,9 +23,9 @@ test: toolchain pages ## prove everything from nothing, try the must-fail edits,
 	@$(MAKE) --no-print-directory console guide_rules python_test
 	@tail -n 1 target/ci.log
 
-pages: ## see that the CHANGELOG tells of this version, and that the README's table of crates and the files that comments cite are there
+pages: ## see that the CHANGELOG tells of this version, that the README's table of crates and the files that comments cite are there, and that no line is too long
 	@grep -q "^## $$(cat VERSION)" CHANGELOG.md || { echo "CHANGELOG.md does not tell of version $$(cat VERSION)"; exit 1; }
-	@if command -v python3 >/dev/null; then python3 tools/layers.py --check && python3 tools/citations.py; fi
+	@if command -v python3 >/dev/null; then python3 tools/layers.py --check && python3 tools/citations.py && python3 tools/lengths.py; fi
 
 toolchain: ## see that the Rattle toolchain is there, and say where it is another than the one that this was proved with
 	@$(have_rt)

@@ -1,5 +1,5 @@
 //! The library's calls over slices: the functions of include/guide_rules.h, each with an answer block of its own. A call gives the refusal's number, 0
-//! for none. It rests on the static library `guide_rules`.
+//! for none; the two for stars give the value. It rests on the static library `guide_rules`.
 
 #[link(name = "guide_rules", kind = "static")]
 extern "C" {
@@ -18,6 +18,13 @@ extern "C" {
 fn answered(call: impl FnOnce(*mut u64, u64) -> u64) -> u64 {
     let mut answer = [0u64; 4];
     call(answer.as_mut_ptr(), 4)
+}
+
+/// The first result; a refusal, which no expression of the benchmark has, stops the run.
+fn given(call: impl FnOnce(*mut u64, u64) -> u64) -> u64 {
+    let mut answer = [0u64; 4];
+    assert_eq!(call(answer.as_mut_ptr(), 4), 0);
+    answer[0]
 }
 
 pub fn transform(flags: usize, table: &[u64], out: &mut [u64]) -> u64 {
@@ -44,20 +51,14 @@ pub fn evaluate(flags: usize, bytes: &[u8], setting: usize) -> u64 {
     answered(|a, k| unsafe { rule_evaluate(flags as u64, bytes.as_ptr(), bytes.len() as u64, setting as u64, a, k) })
 }
 
-/// The value at a setting; a refusal, which no expression of the benchmark has, stops the run.
+/// The value at a setting.
 pub fn value(flags: usize, bytes: &[u8], setting: u64) -> u64 {
-    let mut answer = [0u64; 4];
-    let number = unsafe { rule_evaluate(flags as u64, bytes.as_ptr(), bytes.len() as u64, setting, answer.as_mut_ptr(), 4) };
-    assert_eq!(number, 0);
-    answer[0]
+    given(|a, k| unsafe { rule_evaluate(flags as u64, bytes.as_ptr(), bytes.len() as u64, setting, a, k) })
 }
 
-/// The word of values; a refusal, which no expression of the benchmark has, stops the run.
+/// The word of values.
 pub fn evaluate_stars(flags: usize, words: &[u64], bytes: &[u8]) -> u64 {
-    let mut answer = [0u64; 4];
-    let number = unsafe { rule_evaluate_stars(flags as u64, words.as_ptr(), words.len() as u64, bytes.as_ptr(), bytes.len() as u64, answer.as_mut_ptr(), 4) };
-    assert_eq!(number, 0);
-    answer[0]
+    given(|a, k| unsafe { rule_evaluate_stars(flags as u64, words.as_ptr(), words.len() as u64, bytes.as_ptr(), bytes.len() as u64, a, k) })
 }
 
 pub fn cost(flags: usize, bytes: &[u8]) -> u64 {

@@ -4,13 +4,13 @@
    guide_rules.expected is worked by hand from document 01, not written by this program. Its marked row 00010111 gives word, records and costs; its
    definitions give the rest: word 104 has the bits 3, 5 and 6; five records of three bytes and four of two are 23 bytes; VA1 XO AN XO is a longest
    way to the root; the raw form has 11 records; and the row 01111000 first differs from this one at setting 1. Stars 0 to 7 have the settings 0 to 7
-   and the others setting 0, so by the table bits 3, 5, 6 and 7 of their word are 1, which is 232. */
+   and the others setting 0, so by the table the stars 3, 5, 6 and 7 may guide. */
 #include "guide_rules.h"
 
 #include <inttypes.h>
 #include <stdio.h>
 
-enum { FLAGS = 3, SETTINGS = 8 };
+enum { FLAGS = 3, SETTINGS = 8, STARS = 64 };
 
 static const uint64_t table[SETTINGS] = {0, 0, 0, 1, 0, 1, 1, 1};
 
@@ -21,7 +21,7 @@ static const uint8_t raw[] = {'V', 'A', 0, 'V', 'A', 1, 'A', 'N', 'V', 'A', 0, '
 static const uint8_t other[] = {'V', 'A', 0, 'V', 'A', 1, 'O', 'R', 'V', 'A', 2, 'X', 'O'};
 static const uint8_t cut[] = {'V', 'A', 0, 'V', 'A', 1, 'O'};
 
-/* A word for each flag: star j, from 0 to 7, has the setting j. */
+/* A word for each flag: star j, from 0 to 7, has the setting j, and every other star the setting 0. */
 static const uint64_t stars[FLAGS] = {0xaa, 0xcc, 0xf0};
 
 /* Every call by its documented type: a header that says otherwise does not compile. */
@@ -119,25 +119,30 @@ static void costs_told(const uint8_t *bytes, uint64_t length)
         printf("cost %" PRIu64 ", size %" PRIu64 ", depth %" PRIu64 "\n", answer[0], answer[1], answer[2]);
 }
 
-static void stars_asked(const uint8_t *bytes, uint64_t length)
+static void settings_asked(const uint8_t *bytes, uint64_t length)
 {
     uint64_t answer[GUIDE_RULES_ANSWER_LIMIT];
 
-    for (uint64_t star = 0; star <= SETTINGS; star++) {
-        printf("star with setting %" PRIu64 ": ", star);
-        if (!refused(rule_evaluate(FLAGS, bytes, length, star, answer, GUIDE_RULES_ANSWER_LIMIT), answer))
+    for (uint64_t setting = 0; setting <= SETTINGS; setting++) {
+        printf("star with setting %" PRIu64 ": ", setting);
+        if (!refused(rule_evaluate(FLAGS, bytes, length, setting, answer, GUIDE_RULES_ANSWER_LIMIT), answer))
             printf("%s\n", answer[0] ? "may guide" : "may not guide");
     }
 }
 
-/* Of all stars at once. */
-static void words_asked(uint64_t words, const uint8_t *bytes, uint64_t length)
+/* All 64 stars at once, with that many of the words. */
+static void stars_asked(uint64_t words, const uint8_t *bytes, uint64_t length)
 {
     uint64_t answer[GUIDE_RULES_ANSWER_LIMIT];
 
-    printf("64 stars in %" PRIu64 " words: ", words);
-    if (!refused(rule_evaluate_stars(FLAGS, stars, words, bytes, length, answer, GUIDE_RULES_ANSWER_LIMIT), answer))
-        printf("%" PRIu64 "\n", answer[0]);
+    printf("stars in %" PRIu64 " words: ", words);
+    if (refused(rule_evaluate_stars(FLAGS, stars, words, bytes, length, answer, GUIDE_RULES_ANSWER_LIMIT), answer))
+        return;
+    printf("may guide:");
+    for (int star = 0; star < STARS; star++)
+        if (answer[0] >> star & 1)
+            printf(" %d", star);
+    printf("\n");
 }
 
 int main(void)
@@ -162,9 +167,9 @@ int main(void)
     printf("cheaper of compiled and raw: %s\n", cheaper[rule_cheaper(FLAGS, compiled, length, raw, sizeof raw)]);
     printf("cheaper of compiled and cut: %s\n", cheaper[rule_cheaper(FLAGS, compiled, length, cut, sizeof cut)]);
     if (examined("compiled", compiled, length)) {
-        stars_asked(compiled, length);
-        words_asked(FLAGS, compiled, length);
-        words_asked(FLAGS - 1, compiled, length);
+        settings_asked(compiled, length);
+        stars_asked(FLAGS, compiled, length);
+        stars_asked(FLAGS - 1, compiled, length);
     }
     examined("raw", raw, sizeof raw);
     examined("other", other, sizeof other);

@@ -9,7 +9,8 @@
    coefficients  64-bit words; coefficient m is bit m mod 64 of word m div 64; 2^n / 64 words, rounded up, are needed, and words after these are
                  ignored. Coefficient m is the XOR of the table's bits at all settings whose set bits lie in m
    monomial      a nonzero mask of flags whose coefficient is 1; coefficient 0 is the constant
-   stars         64 of them in 64-bit words, one for each flag: bit j of word i is flag i of star j; words after the first n are ignored
+   stars         n 64-bit words for 64 stars, word i for flag i: bit j of word i is flag i of star j; words after these are ignored. It is a word for
+                 each flag, not a setting for each star. There are always 64: where fewer are sent, mask the result
    expression    bytes: postfix records, each with a two-byte ASCII mark: CO and one byte, 0 or 1; VA and one byte, a flag's index below n; AN, OR,
                  XO, which take two operands, the first first; NO, which takes one. It is well formed if it has 1 to 385 records, no operator lacks
                  operands, and one operand is left at the end
@@ -89,7 +90,7 @@ enum guide_rules_refusal {
     GUIDE_RULES_BAD_SETTING = 11,
     GUIDE_RULES_DIFFERS = 12,
     GUIDE_RULES_TOO_COSTLY = 13,
-    GUIDE_RULES_FEW_WORDS = 14
+    GUIDE_RULES_SHORT_STARS = 14
 };
 
 /* What rule_read finds. */
@@ -146,7 +147,8 @@ uint64_t rule_read(uint64_t flags, const uint8_t *bytes, uint64_t length, uint64
    Refuses by 1 (6 flags), 11, then 9, 6, 7, 8 record by record, then 10. Result: the value, 0 or 1. */
 uint64_t rule_evaluate(uint64_t flags, const uint8_t *bytes, uint64_t length, uint64_t setting, uint64_t *answer, uint64_t answers);
 
-/* The values for 64 stars: bit j of the result is the value at the setting of star j, whose bit i is bit j of word i. A constant 1 has all ones.
+/* The values for 64 stars: bit j of the result is what rule_evaluate gives at the setting of star j, whose bit i is bit j of word i. A constant 1 has
+   all ones.
    Refuses by 1 (6 flags), 14, then 9, 6, 7, 8 record by record, then 10. Result: the word of values. */
 uint64_t rule_evaluate_stars(uint64_t flags, const uint64_t *words, uint64_t count, const uint8_t *bytes, uint64_t length, uint64_t *answer,
                              uint64_t answers);

@@ -1,5 +1,5 @@
 #!/usr/bin/env python3
-"""Records evaluations of 64 stars in stars.bin of the folder named: random and damaged expressions, fewer and more words than flags, and each refusal
+"""Records evaluations for 64 stars in stars.bin of the folder named: random and damaged expressions, fewer and more words than flags, and each refusal
 in its order; and evaluations with a wrong outcome in wrong_stars.bin. It rests on request 1 of document 02 and, for what an expression is, on the
 model of document 01 in expression_cases.py; nothing of the library or of the original Rust is used. The format is in the README beside the
 recorded files.
@@ -47,7 +47,7 @@ RNG = random.Random(14)
 
 
 def sent(count):
-    """Words of that many flags: random, of one star, of all stars, or such that the stars are the settings in turn."""
+    """Words of that many flags: random, of one star each, of none or all, or such that the stars have the settings in turn."""
     kind = RNG.randrange(4)
     if kind == 0:
         return [1 << RNG.randrange(STARS) for _ in range(count)]
@@ -95,8 +95,8 @@ def random_cases():
 
 
 def wrong():
-    """A right evaluation, and then evaluations in which one bit of the outcome differs: of the values the first star's, the last one's and one
-    between, of a refusal its number and its place, and a refusal's number for none."""
+    """A right evaluation, and then evaluations in each of which one thing is wrong: the value of the first star, of one between and of the last, a
+    refusal for values, a refusal's number, a refusal's place, and values for a refusal."""
     rule = b"VA\0VA\1OR"
     right, refused = case(2, [12, 10], rule), case(2, [12, 10], rule + b"AN")
     yield right

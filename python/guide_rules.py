@@ -5,11 +5,13 @@
     guide_rules.show(rule.expression)                        # 'VA0 VA1 VA2 XO AN VA1 VA2 AN XO'
     guide_rules.examine(3, "00010111", rule.expression)      # 9, its cost
     guide_rules.evaluate(3, rule.expression, 0b101)          # 1: flags 0 and 2 are set
-    guide_rules.evaluate_stars(3, [0b1010, 0b1100, 0b0110], rule.expression)   # 0b1110: of four stars all but star 0
+    stars = guide_rules.star_words(3, [0b000, 0b101, 0b110, 0b011])
+    bin(guide_rules.evaluate_stars(3, stars, rule.expression))          # '0b1110': stars 1, 2 and 3
 
 A table is a string of digits 0 and 1, digit i for setting i, or a sequence of ints, of which bit 0 counts. Coefficients are a
-sequence of 64-bit words, an expression is bytes or anything bytes-like. What a call refuses it raises as Refusal; a number that
-does not fit 64 bits is a ValueError.
+sequence of 64-bit words, an expression is bytes or anything bytes-like. Stars are a sequence of 64-bit words, one for each
+flag, in which bit j is star j's; star_words makes them from a setting for each star. What a call refuses it raises as Refusal;
+a number that does not fit 64 bits is a ValueError.
 
 The shared object is the file that the environment variable GUIDE_RULES_LIBRARY names, and otherwise
 build/libguide_rules.so, which `make python` builds. It is loaded by the first call.
@@ -25,23 +27,24 @@ from pathlib import Path
 from typing import List, NamedTuple, Optional, Sequence, TypeVar, Union
 
 __all__ = [
-    "FLAG_LIMIT", "FORM_FLAG_LIMIT", "RECORD_LIMIT", "BYTE_LIMIT",
+    "FLAG_LIMIT", "FORM_FLAG_LIMIT", "RECORD_LIMIT", "BYTE_LIMIT", "STARS",
     "Refusal", "Listing", "Compilation", "Record", "Costs",
     "transform", "way_back", "listing", "raw_cost", "compile", "read", "records", "evaluate", "evaluate_stars", "cost", "cheaper",
     "examine",
-    "show", "parse",
+    "star_words", "show", "parse",
 ]
 
 FLAG_LIMIT = 6  # flags, of the other calls
 FORM_FLAG_LIMIT = 16  # flags, of transform, way_back and listing
 RECORD_LIMIT = 385  # records of a well-formed expression
 BYTE_LIMIT = 963  # bytes of a compiled expression
+STARS = 64  # stars of a word
 
 Table = Union[str, Sequence[int]]
 Expression = Union[bytes, bytearray, memoryview]
 AnyExpression = TypeVar("AnyExpression", bound=Expression)
 
-# the refusals, by document 01 and its change requests: the condition, and what the place is where it is not always 0
+# the refusals of documents 01 and 02: the condition, and what the place is where it is not always 0
 _ROWS = {
     1: ("more than 16 flags (transform, way back, listing) or more than 6 (all others)", None),
     2: ("the table has fewer than 2^flags entries", None),
@@ -172,7 +175,7 @@ def _table(table: Table) -> List[int]:
 
 def _words(words: Sequence[int], name: str = "coefficient word") -> List[int]:
     if isinstance(words, str):
-        raise TypeError(f"a sequence of ints, one for each {name}, not a string")
+        raise TypeError(f"a sequence of ints, each a {name}, not a string")
     return _entries(words, name)
 
 
@@ -275,7 +278,10 @@ def evaluate(flags: int, expression: Expression, setting: int) -> int:
 
 
 def evaluate_stars(flags: int, stars: Sequence[int], expression: Expression) -> int:
-    """The expression's values for 64 stars as one word, bit j for star j; bit j of word i of the stars is flag i of star j."""
+    """The expression's values for 64 stars as one word, bit j for star j; bit j of word i of the stars is flag i of star j.
+
+    There are always 64: where fewer are sent, the bits past them are the values at setting 0.
+    """
     words, data = _words(stars, "word of stars"), _of(expression)
     return _call("rule_evaluate_stars", _fitting(flags, "flags"), *_numbers_of(words), data, len(data))[0]
 
@@ -297,6 +303,17 @@ def examine(flags: int, table: Table, expression: Expression) -> int:
     """The cost of an expression that has the table's bit at every setting and costs no more than the raw form; else a Refusal."""
     entries, data = _table(table), _of(expression)
     return _call("rule_examine", _fitting(flags, "flags"), *_numbers_of(entries), data, len(data))[0]
+
+
+def star_words(flags: int, settings: Sequence[int]) -> List[int]:
+    """The words of up to 64 stars, one for each flag, from a setting for each star; a ValueError where there are more, or a setting is none."""
+    flags, stars = _fitting(flags, "flags"), _entries(settings, "setting of star")
+    if flags > FLAG_LIMIT or len(stars) > STARS:
+        raise ValueError(f"more than {FLAG_LIMIT} flags" if flags > FLAG_LIMIT else f"more than {STARS} stars: {len(stars)}")
+    for j, setting in enumerate(stars):
+        if setting >= 1 << flags:
+            raise ValueError(f"the setting of star {j} is 2^flags or more: {setting}")
+    return [sum((setting >> i & 1) << j for j, setting in enumerate(stars)) for i in range(flags)]
 
 
 def show(expression: Expression) -> str:

@@ -116,6 +116,13 @@ class Rules(unittest.TestCase):
             if len(bits) == 8:
                 table = sum(int(digit) << s for s, digit in enumerate(bits))
                 self.assertEqual(guide_rules.evaluate_stars(3, settings, parse(text)) & 255, table)
+        # star_words turns settings into words
+        self.assertEqual(guide_rules.star_words(2, [0, 2, 1, 3]), [12, 10])
+        self.assertEqual(guide_rules.star_words(2, [0] * 63 + [2]), [0, 1 << 63])
+        self.assertEqual(guide_rules.star_words(0, [0]), [])
+        for flags, bad in ((2, [4]), (1, [0] * 65), (7, [0]), (1, [-1])):
+            with self.assertRaises(ValueError):
+                guide_rules.star_words(flags, bad)
         # 14 comes after 1 and before the records
         self.refused(1, 0, guide_rules.evaluate_stars, 7, [], b"")
         self.refused(14, 0, guide_rules.evaluate_stars, 2, [12], b"?")

@@ -1,6 +1,5 @@
 -- Laws of evaluation on paper: a refusal of the expression is evaluation's, and with the words of a setting's flags lane 0 is that setting, so the
--- value there is evaluation's. They rest on the laws of stars (laws, Stars): the
--- setting is that of star 0.
+-- value there is evaluation's. They rest on the laws of stars (laws, Stars): the setting is that of star 0.
 --   evaluated-refused    == a refusal of the expression is evaluation's
 --   lane-first           == lane 0 is the setting
 --   evaluated-lane       == so evaluation's answer is bit 0 of the word of values

@@ -1,5 +1,6 @@
 -- Laws of the examination against a truth function: document 01's examination is the instance of a table, only the values at the settings count, and
--- it can be read off the lanes of the walk. They rest on the laws of Settings and on tables as truth functions (table, Truth).
+-- it can be read off the lanes of the walk. They rest on the laws of Settings, on tables as truth functions (table, Truth) and on the
+-- laws of outcomes (laws, Outcome).
 --   examine-truth                  == document 01's examination, once rows 1 and 2 are passed
 --   examineTruth-ext               == functions that agree at every setting are examined alike
 --   examine-table                  == past those rows, the examination against the table by value
@@ -20,10 +21,11 @@ use Rattle.rules.specs.Form.{rawCost}
 use Rattle.rules.specs.Limits.{ruleFlags, tooCostly}
 use Rattle.rules.specs.Machine.{made}
 use Rattle.rules.specs.Monomial.{form}
-use Rattle.rules.specs.Outcome.{Outcome, gives, refuses, _then_}
+use Rattle.rules.specs.Outcome.{gives, refuses, _then_}
 use Rattle.rules.specs.Table.{entry}
 use Rattle.rules.specs.Tree.{Tree, value, cost}
 use Rattle.laws.proofs.calls.Checked.{table-complete}
+use Rattle.laws.proofs.calls.Outcome.{then-ext, then-then}
 use Rattle.mask_words.specs.Lookup.{flagWord}
 use Rattle.lanes.specs.Lanes.{seen}
 use Rattle.table.specs.Truth.{truth, tableOf, first}
@@ -32,16 +34,6 @@ use Rattle.table.proofs.Truth.{keep-settings, truth-tableOf, form-ext}
 use Rattle.examiner.specs.Examined.{examineTruth}
 use Rattle.examiner.specs.Inner.{verdict, judgment}
 use Rattle.examiner.proofs.Settings.{bit-values}
-
--- ---- outcomes
-
-then-ext : {A B : Type 0} (o : Outcome A) (f g : A → Outcome B) → ((a : A) → f a ≡ g a) → (o then f) ≡ (o then g)
-then-ext (gives a) f g h = h a
-then-ext (refuses k p) f g h = refl
-
-then-then : {A B C : Type 0} (o : Outcome A) (h : A → B) (g : B → Outcome C) → (o then (λ a. g (h a))) ≡ ((o then (λ a. gives (h a))) then g)
-then-then (gives a) h g = refl
-then-then (refuses k p) h g = refl
 
 -- ---- document 01's examination
 

@@ -1,5 +1,5 @@
 -- Laws of the reader's answers on paper: what a record that it finds is good for, and what each of its three answers says of the bytes. They
--- rest on laws' RecordAt and on `stepAt` of the definitions.
+-- rest on laws' RecordAt and Outcome and on `stepAt` of the definitions.
 --   Read n s p r                         == the record r stands at place p, with the facts that every walk needs of it
 --   step-found, step-end, step-refused   == what the reader's three answers say
 --   read-index                           == a found flag's index is below any bound on the flag count
@@ -17,6 +17,7 @@ use denote.Enum.Declared.{tagOf}
 use borrow.Author.Tests.{ltb-true, ltb-false}
 use Rattle.rules.specs.Outcome.{Outcome, gives, refuses, _then_}
 use Rattle.rules.specs.Record.{Kind, Constant, Flag, And, Or, Xor, Not, FlagBelow, Found, recordAt}
+use Rattle.laws.proofs.calls.Outcome.{then-refuses}
 use Rattle.laws.proofs.reading.RecordAt.{record-read}
 use Rattle.expr.specs.Inner.{stepAt}
 use Rattle.expr.specs.declared.Reading.{Reading}
@@ -58,10 +59,6 @@ then-none : (o : Outcome Found) → o then (λ x. gives (some x)) ≡ gives none
 then-none (gives q) e = clash (cc)
 then-none (refuses k q) e = clash (cc)
 
-then-refused : (o : Outcome Found) (k q : ℕ) → o then (λ x. gives (some x)) ≡ refuses k q → o ≡ refuses k q
-then-refused (gives a) k q e = cc
-then-refused (refuses a b) k q e = cc
-
 module _ (n : ℕ) (s : List ℕ) (p : ℕ) where
   -- the answer by the test for bytes that are left
   answer : Bool → Outcome (Option Found)
@@ -88,7 +85,7 @@ module _ (n : ℕ) (s : List ℕ) (p : ℕ) where
   step-refused k q e = go (ltb p (length s)) refl e
     where
       go : (b : Bool) → ltb p (length s) ≡ b → answer b ≡ refuses k q → (p < length s) × (recordAt n s p ≡ refuses k q)
-      go true i h = (ltb-true p (length s) i, then-refused (recordAt n s p) k q h)
+      go true i h = (ltb-true p (length s) i, then-refuses (recordAt n s p) some k q h)
       go false i h = clash (cc)
 
 -- ---- the code's answer

@@ -1,5 +1,5 @@
 -- Laws of costing on paper: what it answers by the flag count and by the expression's tree, and what its answer says of the tree. They rest on
--- `costing` and `parse` of rules' Calls and on the laws of expr's Costed.
+-- `costing` and `parse` of rules' Calls and on the laws of laws' Outcome and expr's Costed.
 --   costs t                            == a tree's cost, size and depth
 --   costing-over, costing-within       == with too many flags; else by the machine
 --   costing-refused                    == a refusal of the machine is costing's
@@ -17,6 +17,7 @@ use Rattle.rules.specs.Limits.{ruleFlags, tooManyFlags}
 use Rattle.rules.specs.Machine.{made}
 use Rattle.rules.specs.Outcome.{Outcome, gives, refuses, _then_}
 use Rattle.rules.specs.Tree.{Tree, cost, size, depth}
+use Rattle.laws.proofs.calls.Outcome.{then-refuses}
 use Rattle.expr.specs.Inner.{ended}
 use Rattle.expr.proofs.Costed.{Costed, costed-end}
 
@@ -45,11 +46,7 @@ module _ (n : ℕ) (s : List ℕ) where
 
   pub costing-refuses : (k p : ℕ) → costing n s ≡ refuses k p → parse n s ≡ refuses k p
   unfolding costing
-  costing-refuses k p e = go (parse n s) e
-    where
-      go : (o : Outcome Tree) → o then (λ t. gives (costs t)) ≡ refuses k p → o ≡ refuses k p
-      go (gives t) h = cc
-      go (refuses a b) h = cc
+  costing-refuses k p e = then-refuses (parse n s) costs k p e
 
 pub costing-end : {n : ℕ} {s : List ℕ} {entries count place deep : ℕ} {a : List ℕ} {ors : List Bool} {less : ℕ}
     → Costed depth n s entries count place deep a ors less

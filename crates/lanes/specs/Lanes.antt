@@ -1,5 +1,5 @@
--- Sixty-four settings side by side: word i holds flag i of all of them, and lane j of the words is the setting that bit j of each makes up, as if
--- each were a star's (rules, Stars).
+-- Sixty-four settings side by side: word i holds flag i of all of them, and lane j is the setting that bit j of all words makes up, which is that
+-- of star j (rules, Stars).
 --   seen n s ws          == what the walk over the bytes s is to answer: the values in all lanes and the cost of the tree, or its refusal
 use mathlib.Core.List.{List}
 use Prim.Native.Nat.{ℕ}

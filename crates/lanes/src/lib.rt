@@ -36,7 +36,8 @@ enum Attempt {
     Full,
 }
 
-// The walk over a short stack and, for an expression that fills it, over a long one, which takes longer to clear than most expressions to walk.
+// The examiner's walk: over a short stack and, for an expression that fills it, over a long one, which takes longer to clear than most expressions
+// to walk.
 pub fn walk(flags: usize, bytes: &[u8], words: &[u64]) -> Walked
     requires { ⌜ (flags ≤ ruleFlags) × (flags ≤ length (now words)) ⌝ }
     ensures { λ r. ⌜ walkedOf r ≡ seen flags (now (bytes .entry)) (now (words .entry)) ⌝ }
@@ -50,7 +51,7 @@ pub fn walk(flags: usize, bytes: &[u8], words: &[u64]) -> Walked
     }
 }
 
-// `walk` once more, for the evaluation of 64 stars: with one caller each becomes a part of it, which saves some 10 ns a call.
+// `walk` a second time, for the evaluation for 64 stars alone: with a single caller each is made a part of it (docs/DECISIONS.md).
 pub fn walk_stars(flags: usize, bytes: &[u8], words: &[u64]) -> Walked
     requires { ⌜ (flags ≤ ruleFlags) × (flags ≤ length (now words)) ⌝ }
     ensures { λ r. ⌜ walkedOf r ≡ seen flags (now (bytes .entry)) (now (words .entry)) ⌝ }

@@ -1,6 +1,6 @@
 -- A recorded outcome, and the outcome on paper of a call that gives one number as the files have it.
 --   outcomeAt k l at   == the outcome with number k, where 0 is no refusal, and the three results that stand in l from place at on, two bytes each
---   numberOf o         == of a call that gives one number
+--   numberOf o         == the outcome o of a call that gives one number, as the files have it
 use mathlib.Core.Bool.{not}
 use mathlib.Core.List.{List}
 use Prim.Native.Nat.{ℕ, _+_}

@@ -8,7 +8,7 @@ ghost use mathlib.Core.Path.{_≡_};
 ghost use Prim.Native.Nat.{_*_, _^_, _≤_};
 ghost use lib.ListN.{length, replicate};
 ghost use Rattle.bits.specs.Range.{upto};
-ghost use Rattle.recorded.specs.Numbers.{bitAt, pairAt, wordAt};
+ghost use Rattle.recorded.specs.Numbers.{bitAt, pairAt, wordsIn};
 ghost use Rattle.recorded.specs.Noise.{noiseAt, noisy};
 
 // A pattern by which a change past a result, or after a refusal, shows.
@@ -48,7 +48,7 @@ fn noise(i: usize) -> u64
 // Words of 64 bits, the first bit lowest.
 pub fn set_words(words: &mut [u64], bytes: &[u8])
     requires { ⌜ length (now words) ≤ 2 ^ 16 ⌝ }
-    ensures { λ _. ⌜ now (words .exit) ≡ map (λ i. wordAt (now (bytes .entry)) (8 * i)) (upto (length (now (words .entry)))) ⌝ }
+    ensures { λ _. ⌜ now (words .exit) ≡ wordsIn (length (now (words .entry))) (now (bytes .entry)) ⌝ }
 {
     for i in 0..words.len() {
         words[i] = word_at(bytes, 8 * i);

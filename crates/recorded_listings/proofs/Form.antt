@@ -7,12 +7,11 @@
 --   agrees-said                  == the three together
 --   words-set                    == words of which the front was set
 use mathlib.Core.Bool.{Bool, true, false, _&&_}
-use mathlib.Core.List.{List, map, _++_}
+use mathlib.Core.List.{List, _++_}
 use mathlib.Core.Path.{_≡_, refl, ap, ap₂, _∙_}
-use Prim.Native.Nat.{ℕ, _+_, _*_, _-_, _^_, _≤_, _<_}
+use Prim.Native.Nat.{ℕ, _+_, _-_, _^_, _≤_, _<_}
 use lib.ListN.{length, getD, drop, replicate, length-replicate}
 use borrow.Author.Tests.{le-leb, lt-leb, lt-ltb, le-ltb}
-use Rattle.bits.specs.Range.{upto}
 use Rattle.bits.proofs.Tabulated.{length-map-upto}
 use Rattle.rules.specs.Calls as paper
 use Rattle.anf_form.specs.Answers.{listingOf}
@@ -21,7 +20,7 @@ use Rattle.anf_form.specs.declared.Listing.the-variants.{Listed, Refused}
 use Rattle.comparison.specs.Called.{comesTo}
 use Rattle.comparison.specs.Outcome.{results, refusal}
 use Rattle.comparison.specs.declared.outcome.Outcome.{Outcome}
-use Rattle.recorded.specs.Numbers.{pairAt, wordAt}
+use Rattle.recorded.specs.Numbers.{pairAt, wordsIn}
 use Rattle.recorded.proofs.Part.{rest-repeated}
 use Rattle.recorded.specs.Sizes.{entriesOf, wordsOf}
 use Rattle.recorded_listings.specs.Listings.{listedOf, masksAfter, listedBy, pattern, lentWords, masksIn}
@@ -75,7 +74,7 @@ unfolding formAgrees
 agrees-said n w h m f d p q u x y z = rw (x, y, z, u, p, q)
 
 pub words-set : (n : ℕ) (c : List ℕ) {k j : ℕ} {l s : List ℕ} → k ≡ wordsOf n → k ≤ 1027 → j ≡ k → l ≡ replicate 1027 (2 ^ 64 - 1) →
-    s ≡ map (λ i. wordAt c (8 * i)) (upto j) → s ++ drop (k - 0) l ≡ lentWords n c
+    s ≡ wordsIn j c → s ++ drop (k - 0) l ≡ lentWords n c
 words-set n c {k} e f g p q =
-    ap₂ _++_ (q ∙ ap (λ (i : ℕ). map (λ x. wordAt c (8 * x)) (upto i)) (g ∙ e))
+    ap₂ _++_ (q ∙ ap (λ (i : ℕ). wordsIn i c) (g ∙ e))
     (rest-repeated f (2 ^ 64 - 1) p ∙ ap (λ (i : ℕ). replicate (1027 - i) (2 ^ 64 - 1)) e)

@@ -26,7 +26,7 @@ use Rattle.anf_form.specs.declared.Listing.the-variants.{Listed, Refused}
 use Rattle.comparison.specs.Called.{comesTo}
 use Rattle.comparison.specs.Outcome.{results, refusal}
 use Rattle.comparison.specs.declared.outcome.Outcome.{Outcome}
-use Rattle.recorded.specs.Numbers.{pairAt, wordAt}
+use Rattle.recorded.specs.Numbers.{pairAt, wordsIn}
 use Rattle.recorded.specs.Sizes.{entriesOf, wordsOf}
 
 abbrev pub listedOf : result.Outcome paper.Listing → Outcome
@@ -47,7 +47,7 @@ abbrev pub pattern : ℕ
 pattern = 0x89AB_CDEF
 
 abbrev pub lentWords : ℕ → List ℕ → List ℕ
-lentWords n c = map (λ i. wordAt c (8 * i)) (upto (wordsOf n)) ++ replicate (1027 - wordsOf n) (2 ^ 64 - 1)
+lentWords n c = wordsIn (wordsOf n) c ++ replicate (1027 - wordsOf n) (2 ^ 64 - 1)
 
 abbrev pub masksIn : ℕ → List ℕ → List ℕ
 masksIn k m = map (λ i. pairAt m (2 * i)) (upto k)

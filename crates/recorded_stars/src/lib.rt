@@ -12,8 +12,9 @@ use stars::evaluate_stars;
 ghost use mathlib.Core.Path.{_≡_};
 ghost use Prim.Native.Nat.{_<_};
 ghost use Rattle.rules.specs.Calls as paper;
+ghost use Rattle.recorded.specs.Numbers.{wordsIn};
 ghost use Rattle.recorded.specs.Results.{numberOf};
-ghost use Rattle.recorded_stars.specs.Stars.{wordsIn, starsAt, starsAgree};
+ghost use Rattle.recorded_stars.specs.Stars.{starsAt, starsAgree};
 
 // More words than any head asks for.
 const WORDS: usize = 256;

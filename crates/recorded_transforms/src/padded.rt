@@ -4,16 +4,16 @@ use crate::calls::PATTERN;
 use recorded::slices;
 ghost use mathlib.Core.List.{map};
 ghost use mathlib.Core.Path.{_≡_};
-ghost use Prim.Native.Nat.{_*_, _-_, _^_, _≤_};
+ghost use Prim.Native.Nat.{_-_, _^_, _≤_};
 ghost use lib.ListN.{length};
 ghost use Rattle.bits.specs.Range.{upto};
-ghost use Rattle.recorded.specs.Numbers.{bitAt, wordAt};
+ghost use Rattle.recorded.specs.Numbers.{bitAt, wordsIn};
 ghost use Rattle.recorded_transforms.specs.Table.{padded};
 
 // Words of 64 bits.
 pub fn set_words(list: &mut [u64], bytes: &[u8])
     requires { ⌜ (3 ≤ length (now list)) × (length (now list) ≤ 2 ^ 16) ⌝ }
-    ensures { λ _. ⌜ now (list .exit) ≡ padded (map (λ i. wordAt (now (bytes .entry)) (8 * i)) (upto (length (now (list .entry)) - 3))) ⌝ }
+    ensures { λ _. ⌜ now (list .exit) ≡ padded (wordsIn (length (now (list .entry)) - 3) (now (bytes .entry))) ⌝ }
 {
     let count = list.len() - 3;
     slices::set_pattern(list, PATTERN);

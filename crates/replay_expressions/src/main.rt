@@ -14,7 +14,7 @@ use crate::files::Item;
 
 fn main() {
     files::replay(b"cases.bin", b"cases", Item::Case);
-    files::replay(b"stars.bin", b"evaluations of 64 stars", Item::Stars);
+    files::replay(b"stars.bin", b"evaluations for 64 stars", Item::Stars);
     files::replay(b"costs.bin", b"expressions", Item::Costs);
     files::replay(b"choices.bin", b"choices", Item::Choice);
     files::replay(b"listings.bin", b"forms", Item::Listing);
@@ -23,7 +23,7 @@ fn main() {
     files::replay(b"listings.bin", b"refusals of 16 flags", Item::WrongFlags);
     files::replay(b"listings.bin", b"refusals of enough room", Item::WrongRoom);
     files::replay(b"wrong_cases.bin", b"cases", Item::Case);
-    files::replay(b"wrong_stars.bin", b"evaluations of 64 stars", Item::Stars);
+    files::replay(b"wrong_stars.bin", b"evaluations for 64 stars", Item::Stars);
     files::replay(b"wrong_costs.bin", b"expressions", Item::Costs);
     files::replay(b"wrong_choices.bin", b"choices", Item::Choice);
     files::replay(b"wrong_listings.bin", b"forms", Item::Listing);

@@ -1,5 +1,5 @@
 // One evaluation of stars.bin, read: the head, and after it the words of the flags and the expression. It rests on the comparison of a recorded
-// evaluation of 64 stars.
+// evaluation for 64 stars.
 use recorded::numbers::byte_at;
 use recorded::numbers::pair_at;
 use recorded_stars::agrees;

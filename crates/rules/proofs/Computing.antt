@@ -1,4 +1,4 @@
--- Opens document 01's definitions to the computed rows beside this file: a row with `unfolding computing` computes through all of them. It says
+-- Opens the documents' definitions to the computed rows beside this file: a row with `unfolding computing` computes through all of them. It says
 -- nothing of its own.
 use lib.Count.{ones, onesIn}
 use Rattle.bits.specs.Bit.{bit, within}

@@ -1,4 +1,4 @@
--- Request 1 of document 02, computed with the definitions: the settings of stars in the words of the flags, what the evaluation of 64 stars gives,
+-- Request 1 of document 02, computed with the definitions: the settings of stars in the words of the flags, what the evaluation for 64 stars gives,
 -- and its refusals in their order. The values are worked by hand from the request's sentences; nothing here came from a program.
 use mathlib.Core.Bool.{_&&_}
 use mathlib.Core.List.{List, [], _∷_}
@@ -35,6 +35,7 @@ pub star-rows :
     isNumber (2 ^ 64 - 1) (evaluateStars 0 [] (bytesOf "CO1"))
     && isNumber 0 (evaluateStars 2 sent (bytesOf "CO0"))
     && isNumber 12 (evaluateStars 2 sent (bytesOf "VA0"))
+    && isNumber 12 (evaluateStars 1 sent (bytesOf "VA0"))
     && isNumber (10 + 2 ^ 63) (evaluateStars 2 sent (bytesOf "VA1"))
     && isNumber 8 (evaluateStars 2 sent (bytesOf "VA0 VA1 AN"))
     && isNumber (14 + 2 ^ 63) (evaluateStars 2 sent (bytesOf "VA0 VA1 OR"))
@@ -52,11 +53,10 @@ pub star-refusals :
     && isRefusal 14 0 (evaluateStars 6 (1 ∷ 2 ∷ 3 ∷ 4 ∷ 5 ∷ []) (ascii "?"))
     && isRefusal 14 0 (evaluateStars 1 [] (bytesOf "CO1"))
     && isRefusal 10 0 (evaluateStars 6 (1 ∷ 2 ∷ 3 ∷ 4 ∷ 5 ∷ 6 ∷ []) [])
-    && isNumber 12 (evaluateStars 1 sent (bytesOf "VA0"))
     && isRefusal 7 3 (evaluateStars 1 sent (bytesOf "VA0 VA1 AN"))
     && isRefusal 6 0 (evaluateStars 2 sent (ascii "?"))
     && isRefusal 8 3 (evaluateStars 2 sent (bytesOf "VA0 AN"))
     && isRefusal 10 6 (evaluateStars 2 sent (bytesOf "VA0 VA1"))
     )
-unfolding computing isRefusal isNumber bytesOf
+unfolding computing isRefusal bytesOf
 star-refusals = tt

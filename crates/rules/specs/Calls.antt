@@ -1,4 +1,4 @@
--- The calls of document 01, and of the requests of document 02 that are made, on paper, that is, as mathematics over lists and numbers: each makes
+-- The calls of document 01, and of the requests of document 02 that are carried out, on paper, that is, as mathematics over lists and numbers: each makes
 -- its checks "down the table", one line a row, and then gives its result. n is the flag count, room what the lent buffer has in its own entries.
 --   withTable limit n table rest         == rows 1 and 2, then the rest
 --   withCoefficients limit n ws rest     == rows 1, 3 and 4, then the rest
@@ -23,7 +23,7 @@ use Rattle.rules.specs.Cleanup.{cleanup}
 use Rattle.rules.specs.Coefficient.{coefficient, wordCount, packed, stray, words}
 use Rattle.rules.specs.Form.{rawCost}
 use Rattle.rules.specs.Limits.{formFlags, ruleFlags, tooManyFlags, shortTable, shortCoefficients, strayCoefficient, shortOutput}
-use Rattle.rules.specs.Limits.{badSetting, fewWords, differs, tooCostly}
+use Rattle.rules.specs.Limits.{badSetting, shortStars, differs, tooCostly}
 use Rattle.rules.specs.Machine.{made}
 use Rattle.rules.specs.Monomial.{form, constant, monomials, ordered}
 use Rattle.rules.specs.Outcome.{Outcome, gives, refuses, refuse, _then_}
@@ -135,7 +135,7 @@ evaluate n s at =
 unfoldable pub evaluateStars : ℕ → List ℕ → List ℕ → Outcome ℕ
 evaluateStars n ws s =
     refuse (ltb ruleFlags n) tooManyFlags 0
-    (refuse (ltb (length ws) n) fewWords 0
+    (refuse (ltb (length ws) n) shortStars 0
     (made n s then (λ t. gives (starValues n ws t))))
 
 pub record Costs : Type 0 where

@@ -2,7 +2,7 @@
 --   formFlags, ruleFlags     == the most flags of the transform, the way back and the listing, and of all other calls
 --   recordLimit, byteLimit   == the most records of an expression, and the bytes that suffice for a compiled one
 --   wordBits                 == the bits of a word: its coefficients, or its stars
---   tooManyFlags .. fewWords     == the refusals' numbers, 1 to 14, by their conditions
+--   tooManyFlags .. shortStars     == the refusals' numbers, 1 to 14, by their conditions
 use Prim.Native.Nat.{ℕ}
 
 -- "above 16 (transform, way back, listing); above 6 (all others)"
@@ -20,7 +20,7 @@ recordLimit = 385
 abbrev pub byteLimit : ℕ
 byteLimit = 963
 
--- "Coefficients are 64-bit words: coefficient m is bit m mod 64 of word m div 64"
+-- "Coefficients are 64-bit words: coefficient m is bit m mod 64 of word m div 64"; request 1: "one 64-bit word per flag, bit j for star j"
 abbrev pub wordBits : ℕ
 wordBits = 64
 
@@ -65,5 +65,5 @@ abbrev pub tooCostly : ℕ
 tooCostly = 13
 
 -- request 1: "It refuses with 14 .. when fewer than n words are lent"
-abbrev pub fewWords : ℕ
-fewWords = 14
+abbrev pub shortStars : ℕ
+shortStars = 14

@@ -10,10 +10,10 @@ use Rattle.bits.specs.Word.{word}
 use Rattle.rules.specs.Limits.{wordBits}
 use Rattle.rules.specs.Tree.{Tree, value}
 
--- "word i for flag i": its bit i is bit j of word i
+-- "word i for flag i": bit i of the setting is bit j of word i
 unfoldable pub starSetting : ℕ → List ℕ → ℕ → ℕ
 starSetting n ws j = word (keep (λ i. bit (getD ws i 0) j) (upto n))
 
--- "a word whose bit j is the single evaluation of star j, for all 64"
+-- "a word whose bit j is the single evaluation of star j, for all 64": that a call evaluates alike is laws' EachStar
 unfoldable pub starValues : ℕ → List ℕ → Tree → ℕ
 starValues n ws t = word (keep (λ j. value t (starSetting n ws j)) (upto wordBits))

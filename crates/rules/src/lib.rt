@@ -1,4 +1,4 @@
-// The documents as mathematics: specs/ has every definition of document 01, and of the requests of document 02 that are made, each beside the
+// The documents as mathematics: specs/ has every definition of document 01, and of the requests of document 02 that are carried out, each beside the
 // sentence that it renders, and proofs/ computes the documents' own examples with them. The only code is what every call shares: the limits, and
 // the refusal that an answer can hold. It rests on `bits`.
 
@@ -21,9 +21,9 @@ pub const SHORT_COEFFICIENTS: u64 = 3;
 
 pub const STRAY_COEFFICIENT: u64 = 4;
 
-pub const FEW_WORDS: u64 = 14;
-
 pub const BAD_SETTING: u64 = 11;
+
+pub const SHORT_STARS: u64 = 14;
 
 pub const MANY_RECORDS: u64 = 9;
 
@@ -41,7 +41,7 @@ pub const TOO_COSTLY: u64 = 13;
 
 pub const SHORT_OUTPUT: u64 = 5;
 
-// A refusal: the number by which document 01 knows its condition, and the place it gives.
+// A refusal: the number by which the documents know its condition, and the place it gives.
 pub struct Refusal {
     pub number: u64,
     pub place: usize,

@@ -1,18 +1,17 @@
--- Past its two rows the evaluation of 64 stars is the walk over 64 settings side by side, without the cost.
--- It rests on the definitions alone.
+-- Past its two rows the evaluation for 64 stars is the walk over 64 settings side by side, without the cost.
+-- It rests on the laws of outcomes (laws, Outcome).
 --   stars-many, stars-few    == the rows 1 and 14
 --   stars-walked             == past them
 use mathlib.Core.List.{List}
-use mathlib.Core.Path.{_≡_, refl}
+use mathlib.Core.Path.{_≡_}
 use Prim.Native.Nat.{ℕ, _≤_, _<_}
 use lib.ListN.{length}
 use borrow.Author.Tests.{lt-ltb, le-ltb}
 use Rattle.rules.specs.Calls.{evaluateStars}
-use Rattle.rules.specs.Limits.{ruleFlags, tooManyFlags, fewWords}
+use Rattle.rules.specs.Limits.{ruleFlags, tooManyFlags, shortStars}
 use Rattle.rules.specs.Machine.{made}
-use Rattle.rules.specs.Outcome.{Outcome, gives, refuses, _then_}
-use Rattle.rules.specs.Stars.{starValues}
-use Rattle.rules.specs.Tree.{Tree, cost}
+use Rattle.rules.specs.Outcome.{gives, refuses, _then_}
+use Rattle.laws.proofs.calls.Outcome.{then-then}
 use Rattle.lanes.specs.Lanes.{seen}
 use Rattle.lanes.specs.declared.Seen.{Seen}
 
@@ -22,15 +21,10 @@ module _ (n : ℕ) (ws s : List ℕ) where
   stars-many h = rw (lt-ltb ruleFlags n h)
 
   module _ (few : n ≤ ruleFlags) where
-    pub stars-few : length ws < n → evaluateStars n ws s ≡ refuses fewWords 0
+    pub stars-few : length ws < n → evaluateStars n ws s ≡ refuses shortStars 0
     unfolding evaluateStars
     stars-few h = rw (le-ltb ruleFlags n few, lt-ltb (length ws) n h)
 
     pub stars-walked : n ≤ length ws → evaluateStars n ws s ≡ seen n s ws then (λ (v : Seen). gives (v .values))
     unfolding evaluateStars seen
-    stars-walked h = rw (le-ltb ruleFlags n few, le-ltb (length ws) n h) (go (made n s))
-      where
-        go : (o : Outcome Tree) → o then (λ t. gives (starValues n ws t))
-            ≡ o then (λ t. gives (record { values = starValues n ws t; cost = cost t })) then (λ (v : Seen). gives (v .values))
-        go (gives t) = refl
-        go (refuses k p) = refl
+    stars-walked h = rw (le-ltb ruleFlags n few, le-ltb (length ws) n h) (then-then (made n s) _ _)

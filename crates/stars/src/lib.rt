@@ -1,9 +1,9 @@
 // Evaluation of an expression for 64 stars at once: a word for each flag, in which bit j is star j's, and a word of values. After its two checks it
 // is the walk over the records that the examiner makes. It rests on `lanes`.
 use lanes::Walked;
-use rules::FEW_WORDS;
 use rules::RULE_FLAGS;
 use rules::Refusal;
+use rules::SHORT_STARS;
 use rules::TOO_MANY_FLAGS;
 ghost use mathlib.Core.Path.{_≡_};
 ghost use Rattle.rules.specs.Calls;
@@ -15,6 +15,7 @@ pub enum StarEvaluation {
     Refused(Refusal),
 }
 
+// A refusal as the answer.
 fn refused(number: u64, place: usize) -> StarEvaluation
     ensures { λ r. ⌜ r ≡ StarEvaluation.Refused (record { number = number; place = place }) ⌝ }
 {
@@ -29,7 +30,7 @@ pub fn evaluate_stars(flags: usize, words: &[u64], bytes: &[u8]) -> StarEvaluati
         return refused(TOO_MANY_FLAGS, 0);
     }
     if words.len() < flags {
-        return refused(FEW_WORDS, 0);
+        return refused(SHORT_STARS, 0);
     }
     let walked = lanes::walk_stars(flags, bytes, words);
     match walked {

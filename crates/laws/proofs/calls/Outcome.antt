@@ -5,12 +5,14 @@
 --   refuse-gives     == a row that was passed does not hold, and the rest gave the result
 --   then-gives       == each of two steps gave a result
 --   then-refuses     == where the second step only computes, the first refused
+--   then-ext         == steps that agree
+--   then-then        == a step that computes and then goes on is two
 --   front-written    == the first entries of a buffer are what was written there
 --   length-front     == a buffer's front tells how long it is
 --   pick, pick-gives == a choice between two outcomes: one of them gave the result
 use mathlib.Core.Bool.{Bool, true, false}
 use mathlib.Core.List.{List}
-use mathlib.Core.Path.{_≡_, refl, sym, ap, ap₂, _∙_}
+use mathlib.Core.Path.{_≡_, refl, sym, ap, _∙_}
 use Prim.Native.Nat.{ℕ, _≤_}
 use native.Mathlib.Omega.{arith}
 use lib.ListN.{length, getD}
@@ -34,8 +36,16 @@ then-gives (gives a) f b e = (a, refl, e)
 then-gives (refuses k p) f b e = absurd (not-both (sym e))
 
 pub then-refuses : {A B : Type 0} (o : Outcome A) (f : A → B) (k p : ℕ) → (o then (λ a. gives (f a))) ≡ refuses k p → o ≡ refuses k p
-then-refuses (gives a) f k p e = absurd (not-both e)
-then-refuses (refuses l q) f k p e = let x : l ≡ k = cc in let y : q ≡ p = cc in ap₂ refuses x y
+then-refuses (gives a) f k p e = cc
+then-refuses (refuses l q) f k p e = cc
+
+pub then-ext : {A B : Type 0} (o : Outcome A) (f g : A → Outcome B) → ((a : A) → f a ≡ g a) → (o then f) ≡ (o then g)
+then-ext (gives a) f g h = h a
+then-ext (refuses k p) f g h = refl
+
+pub then-then : {A B C : Type 0} (o : Outcome A) (h : A → B) (g : B → Outcome C) → (o then (λ a. g (h a))) ≡ ((o then (λ a. gives (h a))) then g)
+then-then (gives a) h g = refl
+then-then (refuses k p) h g = refl
 
 abbrev pub pick : {A : Type 0} → Bool → A → A → A
 pick b x y = elim b [ true ↦ x | false ↦ y ]
