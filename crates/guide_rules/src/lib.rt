@@ -1,6 +1,6 @@
-// The whole library for C: every call of the documents as one function, which `include/guide_rules.h` declares. A call returns the refusal's number, 0
-// for none, and stores its answer at the front of a lent block of 64-bit numbers: the results, or after a refusal the place alone. A static library
-// has the functions of one crate, so they stand here by their names for C; it rests on `c_tables` and `c_expressions`, which answer.
+// The whole library for C: every call of the documents as one function, which `include/guide_rules.h` declares. A call returns the refusal's number,
+// 0 for none, and stores its answer at the front of a lent block of 64-bit numbers: the results, or after a refusal the place alone. A static
+// library has the functions of one crate, so they stand here by their names for C; it rests on `c_tables` and `c_expressions`, which answer.
 ghost use mathlib.Core.Path.{_≡_};
 ghost use lib.ListN.{length};
 ghost use Rattle.compiler.specs.Answers.{bytesOf};

@@ -1,5 +1,6 @@
--- The calls of document 01, and of the requests of document 02 that are carried out, on paper, that is, as mathematics over lists and numbers: each makes
--- its checks "down the table", one line a row, and then gives its result. n is the flag count, room what the lent buffer has in its own entries.
+-- The calls of document 01, and of the requests of document 02 that are carried out, on paper, that is, as mathematics over lists and numbers: each
+-- makes its checks "down the table", one line a row, and then gives its result. n is the flag count, room what the lent buffer has in its own
+-- entries.
 --   withTable limit n table rest         == rows 1 and 2, then the rest
 --   withCoefficients limit n ws rest     == rows 1, 3 and 4, then the rest
 --   withRoom room l rest                 == row 5, then the rest; fill room l gives l itself

@@ -1,5 +1,5 @@
--- The evaluation for 64 stars is the single evaluation of each star: request 1's sentence as theorems, where at least n words are lent. They rest on the
--- laws of stars (Stars) and of outcomes (Outcome).
+-- The evaluation for 64 stars is the single evaluation of each star: request 1's sentence as theorems, where at least n words are lent. They rest
+-- on the laws of stars (Stars) and of outcomes (Outcome).
 --   star-evaluated                 == the single evaluation of star j is bit j of the answer, or the answer's refusal
 --   star-valued                    == so where the answer is a word, it gives bit j of it
 --   stars-only                     == no other word has these bits
