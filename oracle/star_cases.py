@@ -61,15 +61,19 @@ def sent(count):
 def rows():
     """The refusals at their edges and in their order, and each record alone."""
     for n in (0, 1, 2, 5, 6, 7, 8, 16, 64, 2**32, LARGEST):
-        for count in (0, 1, 2, 4, 5, 6, 7, 8):
+        for count in range(9):
             for data in (b"CO\1", b"VA\0", b"XX", b""):
                 yield case(n, sent(count), data)
         yield case(n, sent(255), b"VA\0")
     for n in range(7):
         for index in range(n + 1):
             yield case(n, sent(n), b"VA" + bytes([index]))
-        for data in (b"CO\0", b"CO\1", b"CO\2", b"V", b"VA", b"AN", b"NO", b"CO\1NO", b"CO\1CO\0", b"CO\1CO\0AN", b"CO\1CO\0OR", b"CO\1CO\0XO"):
+        for data in (b"CO\0", b"CO\1", b"CO\2", b"V", b"VA", b"AN", b"OR", b"XO", b"NO", b"CO\0NO", b"CO\1NO", b"CO\1CO\0"):
             yield case(n, sent(n), data)
+        for first in (b"CO\0", b"CO\1"):
+            for second in (b"CO\0", b"CO\1"):
+                for mark in (b"AN", b"OR", b"XO"):
+                    yield case(n, sent(n), first + second + mark)
     one = b"VA\0"
     long = one + b"NO" * 384
     for data in (long, long + b"NO", long + b"V", long + b"XX", one * 385, one * 386, one * 193 + b"XO" * 192, one * 193 + b"OR" * 192, one * 194 + b"AN" * 192):
@@ -96,9 +100,11 @@ def random_cases():
 
 def wrong():
     """A right evaluation, and then evaluations in each of which one thing is wrong: the value of the first star, of one between and of the last, a
-    refusal for values, a refusal's number, a refusal's place, and values for a refusal."""
+    refusal for values, a refusal's number, a refusal's place, values for a refusal; and with more flags, with more words than flags and with many
+    operands a star's value, and the place of the refusal of too few words."""
     rule = b"VA\0VA\1OR"
     right, refused = case(2, [12, 10], rule), case(2, [12, 10], rule + b"AN")
+    deep = case(6, sent(8), b"".join(b"VA" + bytes([i % 6]) for i in range(65)) + b"XO" * 64)
     yield right
     yield changed(right, 12, 1)
     yield changed(right, 16, 4)
@@ -107,6 +113,10 @@ def wrong():
     yield changed(refused, 11, 1)
     yield changed(refused, 12, 1)
     yield changed(case(2, [12], rule), 11, 14)
+    yield changed(case(6, sent(6), b"VA\3VA\5AN"), 14, 16)
+    yield changed(case(3, sent(8), b"VA\2"), 13, 2)
+    yield changed(deep, 17, 8)
+    yield changed(case(6, sent(5), b""), 12, 1)
 
 
 def changed(outcome, at, bits):

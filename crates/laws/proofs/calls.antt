@@ -1,5 +1,6 @@
 pub mod Outcome
 pub mod Checked
+pub mod Refused
 pub mod Stars
 pub mod EachStar
 pub mod Numbered

@@ -14,6 +14,10 @@ use Rattle.rules.proofs.Computing.{computing}
 abbrev pub sent : List ℕ
 sent = 12 ∷ (10 + 2 ^ 63) ∷ []
 
+-- flag i is set for star i alone
+abbrev pub six : List ℕ
+six = 1 ∷ 2 ∷ 4 ∷ 8 ∷ 16 ∷ 32 ∷ []
+
 -- "bit j for star j", "word i for flag i"; a word past the n first is no flag
 pub setting-rows :
     T (
@@ -25,6 +29,9 @@ pub setting-rows :
     && eqb (starSetting 1 sent 1) 0
     && eqb (starSetting 1 sent 3) 1
     && eqb (starSetting 0 sent 3) 0
+    && eqb (starSetting 6 six 2) 4
+    && eqb (starSetting 6 six 5) 32
+    && eqb (starSetting 3 six 5) 0
     )
 unfolding computing
 setting-rows = tt
@@ -42,6 +49,7 @@ pub star-rows :
     && isNumber (6 + 2 ^ 63) (evaluateStars 2 sent (bytesOf "VA0 VA1 XO"))
     && isNumber (2 ^ 64 - 1 - 12) (evaluateStars 2 sent (bytesOf "VA0 NO"))
     && isNumber 4 (evaluateStars 2 sent (bytesOf "VA0 VA1 NO AN"))
+    && isNumber 44 (evaluateStars 6 six (bytesOf "VA2 VA3 OR VA5 OR"))
     )
 unfolding computing isNumber bytesOf
 star-rows = tt
@@ -50,9 +58,11 @@ star-rows = tt
 pub star-refusals :
     T (
     isRefusal 1 0 (evaluateStars 7 [] [])
+    && isRefusal 1 0 (evaluateStars 7 (64 ∷ six) (bytesOf "CO1"))
+    && isRefusal 1 0 (evaluateStars 17 six (bytesOf "CO1"))
     && isRefusal 14 0 (evaluateStars 6 (1 ∷ 2 ∷ 3 ∷ 4 ∷ 5 ∷ []) (ascii "?"))
     && isRefusal 14 0 (evaluateStars 1 [] (bytesOf "CO1"))
-    && isRefusal 10 0 (evaluateStars 6 (1 ∷ 2 ∷ 3 ∷ 4 ∷ 5 ∷ 6 ∷ []) [])
+    && isRefusal 10 0 (evaluateStars 6 six [])
     && isRefusal 7 3 (evaluateStars 1 sent (bytesOf "VA0 VA1 AN"))
     && isRefusal 6 0 (evaluateStars 2 sent (ascii "?"))
     && isRefusal 8 3 (evaluateStars 2 sent (bytesOf "VA0 AN"))

@@ -2,7 +2,7 @@
 --   formFlags, ruleFlags     == the most flags of the transform, the way back and the listing, and of all other calls
 --   recordLimit, byteLimit   == the most records of an expression, and the bytes that suffice for a compiled one
 --   wordBits                 == the bits of a word: its coefficients, or its stars
---   tooManyFlags .. shortStars     == the refusals' numbers, 1 to 14, by their conditions
+--   tooManyFlags .. shortStars   == the refusals' numbers, 1 to 14, by their conditions
 use Prim.Native.Nat.{ℕ}
 
 -- "above 16 (transform, way back, listing); above 6 (all others)"

@@ -1,18 +1,22 @@
--- The rows that several calls share, one by one: what a call answers where a row refuses, and that it goes on where none does.
+-- The rows that several calls share, and those of the evaluation for 64 stars, one by one: what a call answers where a row refuses, and that it goes
+-- on where none does.
 -- It rests on the definitions of rules' Calls alone.
 --   table-flags, -short, -complete               == rows 1 and 2, and past them
 --   coefficients-flags, -short, -stray, -clean   == rows 1, 3 and 4, and past them
 --   room-short, room-enough                      == row 5, and past it
+--   stars-many, -short, -enough                  == rows 1 and 14, and past them
 use mathlib.Core.Bool.{true, false}
 use mathlib.Core.List.{List}
 use mathlib.Core.Path.{_≡_}
 use Prim.Native.Nat.{ℕ, _^_, _≤_, _<_}
 use lib.ListN.{length}
 use borrow.Author.Tests.{lt-ltb, le-ltb, lt-leb, le-leb}
-use Rattle.rules.specs.Calls.{withTable, withCoefficients, withRoom}
+use Rattle.rules.specs.Calls.{withTable, withCoefficients, withRoom, evaluateStars}
 use Rattle.rules.specs.Coefficient.{wordCount, stray}
-use Rattle.rules.specs.Limits.{tooManyFlags, shortTable, shortCoefficients, strayCoefficient, shortOutput}
-use Rattle.rules.specs.Outcome.{Outcome, refuses}
+use Rattle.rules.specs.Limits.{ruleFlags, tooManyFlags, shortTable, shortCoefficients, strayCoefficient, shortOutput, shortStars}
+use Rattle.rules.specs.Machine.{made}
+use Rattle.rules.specs.Outcome.{Outcome, gives, refuses, _then_}
+use Rattle.rules.specs.Stars.{starValues}
 
 module _ {A : Type 0} (limit n : ℕ) (table : List ℕ) (rest : Outcome A) where
   pub table-flags : limit < n → withTable limit n table rest ≡ refuses tooManyFlags 0
@@ -55,3 +59,17 @@ module _ {A : Type 0} (room : ℕ) (l : List ℕ) (rest : Outcome A) where
   pub room-enough : length l ≤ room → withRoom room l rest ≡ rest
   unfolding withRoom
   room-enough h = rw (le-ltb room (length l) h)
+
+module _ (n : ℕ) (ws s : List ℕ) where
+  pub stars-many : ruleFlags < n → evaluateStars n ws s ≡ refuses tooManyFlags 0
+  unfolding evaluateStars
+  stars-many h = rw (lt-ltb ruleFlags n h)
+
+  module _ (few : n ≤ ruleFlags) where
+    pub stars-short : length ws < n → evaluateStars n ws s ≡ refuses shortStars 0
+    unfolding evaluateStars
+    stars-short h = rw (le-ltb ruleFlags n few, lt-ltb (length ws) n h)
+
+    pub stars-enough : n ≤ length ws → evaluateStars n ws s ≡ made n s then (λ t. gives (starValues n ws t))
+    unfolding evaluateStars
+    stars-enough h = rw (le-ltb ruleFlags n few, le-ltb (length ws) n h)

@@ -1,15 +1,17 @@
--- `stars::evaluate_stars` meets its contract: its two tests are the rows 1 and 14, and what the walk answers is the rest. From the laws of Walked.
+-- `stars::evaluate_stars` meets its contract: its two tests are the rows 1 and 14, and what the walk answers is the rest. From laws' Checked and
+-- from Walked.
 use mathlib.Core.Path.{_≡_, sym, ap, _∙_}
 use native.Mathlib.Omega.{arith}
 use denote.Ref.{now}
 use borrow.Author.Needs.{needs}
 use Rattle.rules.specs.Calls.{evaluateStars}
 use Rattle.rules.specs.Outcome.{Outcome, gives, _then_}
+use Rattle.laws.proofs.calls.Checked.{stars-many, stars-short}
 use Rattle.lanes.specs.Answers.{walkedOf}
 use Rattle.lanes.specs.declared.Seen.{Seen}
 use Rattle.lanes.specs.declared.Walked.{Walked}
 use Rattle.stars.specs.Answers.{starEvaluationOf}
-use Rattle.stars.proofs.Walked.{stars-many, stars-few, stars-walked}
+use Rattle.stars.proofs.Walked.{stars-walked}
 use Rattle.stars.proofs.evaluate_stars.Statement.{statement}
 use Rattle.stars.proofs.evaluate_stars.Tie as tie
 
@@ -17,7 +19,7 @@ returns : tie.Need-returns
 returns c = ap starEvaluationOf (c .refused .ensures) ∙ sym (stars-many _ _ _ (c .before .if1 .taken))
 
 returns-2 : tie.Need-returns-2
-returns-2 c = ap starEvaluationOf (c .refused2 .ensures) ∙ sym (stars-few _ _ _ (c .before .before .if1 .left) (omega arith))
+returns-2 c = ap starEvaluationOf (c .refused2 .ensures) ∙ sym (stars-short _ _ _ (c .before .before .if1 .left) (omega arith))
 
 -- where the call began
 abbrev start : tie.After-walk-stars → tie.Start
