@@ -74,7 +74,7 @@ fn value(tree: &Expr, setting: u64) -> u64 {
     }
 }
 
-const ROUNDS: usize = 7;
+const ROUNDS: usize = 25;
 
 /// Nanoseconds of one call on each input: the least of several rounds, the two sides in turn.
 fn measure(inputs: usize, repeat: usize, mut original: impl FnMut(usize), mut ours: impl FnMut(usize)) -> (Vec<f64>, Vec<f64>) {

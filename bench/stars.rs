@@ -50,8 +50,8 @@ fn row(n: usize, random: &mut Random) {
     for i in 0..asked.len() {
         assert_eq!((stars(i), single(i)), (original(i), original(i)), "the original's tree has other values");
     }
-    let (a, b) = measure(asked.len(), 50, |i| drop(original(i)), |i| drop(stars(i)));
-    let (c, d) = measure(asked.len(), 50, |i| drop(single(i)), |i| drop(stars(i)));
+    let (a, b) = measure(asked.len(), 50, |i| _ = original(i), |i| _ = stars(i));
+    let (c, d) = measure(asked.len(), 50, |i| _ = single(i), |i| _ = stars(i));
     let (a, b, c, d) = (mean(&a), mean(&b), mean(&c), mean(&d));
     println!("| {n} | {a:.0} | {c:.0} | {:.0} | {:.1} | {:.1} |", b.min(d), a / b, c / d);
 }
