@@ -29,9 +29,8 @@ from typing import List, NamedTuple, Optional, Sequence, TypeVar, Union
 __all__ = [
     "FLAG_LIMIT", "FORM_FLAG_LIMIT", "RECORD_LIMIT", "BYTE_LIMIT", "STARS",
     "Refusal", "Listing", "Compilation", "Record", "Costs",
-    "transform", "way_back", "listing", "raw_cost", "compile", "read", "records", "evaluate", "evaluate_stars", "cost", "cheaper",
-    "examine",
-    "star_words", "show", "parse",
+    "transform", "way_back", "listing", "raw_cost", "compile", "read", "records", "evaluate", "evaluate_stars",
+    "cost", "cheaper", "examine", "star_words", "show", "parse",
 ]
 
 FLAG_LIMIT = 6  # flags, of the other calls

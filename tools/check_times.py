@@ -17,6 +17,7 @@ print("one more check of the crate. Two checks run side by side, so the whole ta
 print("| | Crates | Proofs, s | Edits | Their checks, s |\n|---|---|---|---|---|")
 print("| version 0.1.0, before crates were split by functions and laws stood apart | 23 | 367 | 275 | 4253 |")
 print("| version 0.2.0, before the calls for C and what decides in the replays were split by functions | 39 | 396 | 335 | 2572 |")
+print("| version 0.2.1, before the requests of document 02 | 47 | 460 | 337 | 1782 |")
 print(f"| now | {len(proof)} | {sum(proof.values())} | {sum(edits.values())} | {sum(trials.values())} |\n")
 print("| Crate | Proof, s | Edits | Their checks, s |\n|---|---|---|---|")
 for crate in proof:
