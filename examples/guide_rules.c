@@ -1,10 +1,10 @@
 /* It lists a rule's monomials, compiles the rule, reads its records, has it examined and asks it about stars. The rule: a star may guide if at least
    two of three flags are set. It rests on guide_rules.h.
 
-   guide_rules.expected is worked by hand from document 01, not written by this program. Its marked row 00010111 gives word, records and costs; its
-   definitions give the rest: word 104 has the bits 3, 5 and 6; five records of three bytes and four of two are 23 bytes; VA1 XO AN XO is a longest
-   way to the root; the raw form has 11 records; and the row 01111000 first differs from this one at setting 1. Stars 0 to 7 have the settings 0 to 7
-   and the others setting 0, so by the table the stars 3, 5, 6 and 7 may guide. */
+   guide_rules.expected is worked by hand from the documents, not written by this program. Document 01's marked row 00010111 gives word, records and
+   costs; the definitions give the rest: word 104 has the bits 3, 5 and 6; five records of three bytes and four of two are 23 bytes; VA1 XO AN XO is
+   a longest way to the root; the raw form has 11 records; and the row 01111000 first differs from this one at setting 1. Stars 0 to 7 have the
+   settings 0 to 7 and the others setting 0, so by the table the stars 3, 5, 6 and 7 may guide. */
 #include "guide_rules.h"
 
 #include <inttypes.h>

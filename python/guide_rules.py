@@ -174,7 +174,7 @@ def _table(table: Table) -> List[int]:
 
 def _words(words: Sequence[int], name: str = "coefficient word") -> List[int]:
     if isinstance(words, str):
-        raise TypeError(f"a sequence of ints, each a {name}, not a string")
+        raise TypeError("no sequence of ints: str")
     return _entries(words, name)
 
 
@@ -305,8 +305,11 @@ def examine(flags: int, table: Table, expression: Expression) -> int:
 
 
 def star_words(flags: int, settings: Sequence[int]) -> List[int]:
-    """The words of up to 64 stars, one for each flag, from a setting for each star; a ValueError where there are more, or a setting is none."""
-    flags, stars = _fitting(flags, "flags"), _entries(settings, "setting of star")
+    """The words of up to 64 stars, one for each flag, from a setting for each star.
+
+    A ValueError for more than 64 stars, more than 6 flags, or a setting of 2^flags or more.
+    """
+    flags, stars = _fitting(flags, "flags"), _words(settings, "setting of star")
     if flags > FLAG_LIMIT or len(stars) > STARS:
         raise ValueError(f"more than {FLAG_LIMIT} flags" if flags > FLAG_LIMIT else f"more than {STARS} stars: {len(stars)}")
     for j, setting in enumerate(stars):

@@ -219,6 +219,8 @@ class Rules(unittest.TestCase):
             (guide_rules.compile, ("0", "0")),
             (guide_rules.way_back, (0, "1")),
             (guide_rules.evaluate_stars, (0, "1", b"CO\0")),
+            (guide_rules.star_words, (1, "01")),
+            (guide_rules.star_words, (1, [0.0])),
             (guide_rules.evaluate_stars, (0, b"1", b"CO\0")),
             (guide_rules.cost, (0, "CO0")),
             (guide_rules.cost, (0, 5)),

@@ -51,7 +51,7 @@ pub fn walk(flags: usize, bytes: &[u8], words: &[u64]) -> Walked
     }
 }
 
-// `walk` a second time, for the evaluation for 64 stars alone: with a single caller each is made a part of it (docs/DECISIONS.md).
+// `walk` a second time, for the evaluation for 64 stars alone: with one caller each, both are inlined there (docs/DECISIONS.md).
 pub fn walk_stars(flags: usize, bytes: &[u8], words: &[u64]) -> Walked
     requires { ⌜ (flags ≤ ruleFlags) × (flags ≤ length (now words)) ⌝ }
     ensures { λ r. ⌜ walkedOf r ≡ seen flags (now (bytes .entry)) (now (words .entry)) ⌝ }

@@ -1,6 +1,6 @@
 -- A recorded evaluation for 64 stars on paper: h are the bytes of its head, w those of the words, s the expression.
 --   starsAt h          == the recorded outcome
---   starsAgree h w s   == the call with the flag count and as many words as h has answers so
+--   starsAgree h w s   == the call with h's flag count and the first words of w, as many as h says, answers so
 use mathlib.Core.Bool.{Bool, not}
 use mathlib.Core.List.{List}
 use Prim.Native.Nat.{ℕ}

@@ -5,7 +5,7 @@
 --   stars-only         == no other word has these bits
 --   single-refused     == where the answer is a refusal, the single evaluation refuses by the same number and place
 --   stars-refused      == where the single evaluation of a star refuses, so does the call, by the same number and place
---   short-words        == 14 is given only where at most six flags have fewer words
+--   short-words        == 14 is given only where there are at most six flags and fewer words than flags
 use mathlib.Core.Bool.{Bool}
 use mathlib.Core.List.{List}
 use mathlib.Core.Path.{_≡_, refl, sym, ap, _∙_}

@@ -1,6 +1,6 @@
 -- Every refusal has a number above 0, so a number 0 means a result: the console's two calls together tell the outcome.
 -- It rests on the rows of the calls, and for the reading of an expression on Refused.
---   Numbered o               == a refusal of o has a number above 0
+--   Positive k, Numbered o   == k is above 0; a refusal of o has such a number
 --   numbered-made            == so for the reading of an expression
 --   numbered-transform, numbered-wayBack, numbered-listing, numbered-rawCosting, numbered-compile      == for the calls on tables and coefficients
 --   numbered-read, numbered-evaluate, numbered-evaluateStars, numbered-costing, numbered-examine       == for those on expressions

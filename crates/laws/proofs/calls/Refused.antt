@@ -1,6 +1,6 @@
 -- By which numbers an outcome refuses, and that the reading of an expression refuses by 6 to 10 alone. It rests on the rows of the machine.
 --   By P o                         == a refusal of o has a number for which P holds
---   by-row, by-step, by-choice     == by a row, by two steps, by a choice
+--   by-row, by-step, by-choice     == a row, two steps and a choice refuse so where their parts do
 --   record-by, made-by             == of a record: 6 and 7; of an expression: 6 to 10
 use mathlib.Core.Bool.{Bool, true, false}
 use mathlib.Core.List.{List, [], _∷_}
