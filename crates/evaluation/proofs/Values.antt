@@ -1,10 +1,10 @@
 -- Laws of evaluation on paper: a refusal of the expression is evaluation's, and with the words of a setting's flags lane 0 is that setting, so the
--- value there is evaluation's. They rest on the laws of stars (laws, Stars): the setting is that of star 0.
+-- value there is evaluation's. They rest on the laws of outcomes and of stars (laws, Outcome and Stars): the setting is star 0's.
 --   evaluated-refused    == a refusal of the expression is evaluation's
 --   lane-first           == lane 0 is the setting
 --   evaluated-lane       == so evaluation's answer is bit 0 of the word of values
 use mathlib.Core.List.{List}
-use mathlib.Core.Path.{_≡_, refl, ap, _∙_}
+use mathlib.Core.Path.{_≡_, ap, _∙_}
 use Prim.Native.Nat.{ℕ, _%_, _^_, _≤_, _<_}
 use native.Mathlib.Nat.{lt-of-lt-of-le}
 use native.Mathlib.Omega.{arith}
@@ -16,10 +16,10 @@ use Rattle.rules.specs.Limits.{ruleFlags}
 use Rattle.rules.specs.Machine.{made}
 use Rattle.rules.specs.Outcome.{Outcome, gives, refuses, _then_}
 use Rattle.rules.specs.Stars.{starSetting, starValues}
-use Rattle.rules.specs.Tree.{Tree, value, cost}
+use Rattle.rules.specs.Tree.{Tree, value}
+use Rattle.laws.proofs.calls.Outcome.{then-ext, then-then}
 use Rattle.laws.proofs.calls.Stars.{starSetting-is, bit-starValues}
 use Rattle.lanes.specs.Lanes.{seen}
-use Rattle.lanes.specs.declared.Seen.{Seen}
 use Rattle.evaluation.specs.inner.OneSetting.{evaluated, settingWords}
 
 pub evaluated-refused : (n : ℕ) (s : List ℕ) (at k p : ℕ) → made n s ≡ refuses k p → evaluated n s at ≡ refuses k p
@@ -40,9 +40,4 @@ module _ (n at : ℕ) (few : n ≤ ruleFlags) (h : at < 2 ^ n) where
 
   pub evaluated-lane : (s : List ℕ) → evaluated n s at ≡ seen n s (settingWords at) then (λ v. gives (v .values % 2))
   unfolding evaluated seen
-  evaluated-lane s = go (made n s)
-    where
-      go : (o : Outcome Tree) → o then (λ t. gives (digit (value t at)))
-          ≡ o then (λ t. gives (record { values = starValues n (settingWords at) t; cost = cost t })) then (λ (v : Seen). gives (v .values % 2))
-      go (gives t) = ap gives (value-lane t)
-      go (refuses k p) = refl
+  evaluated-lane s = then-ext (made n s) _ _ (λ t. ap gives (value-lane t)) ∙ then-then (made n s) _ _

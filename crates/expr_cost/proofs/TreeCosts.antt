@@ -7,9 +7,8 @@
 --   costing-end                        == what a walk answers at the end of the bytes
 use mathlib.Core.Bool.{Bool}
 use mathlib.Core.List.{List}
-use mathlib.Core.Path.{_≡_, refl, sym, ap, _∙_}
+use mathlib.Core.Path.{_≡_, sym, ap, _∙_}
 use Prim.Native.Nat.{ℕ, _-_, _≤_, _<_}
-use native.Mathlib.Omega.{arith}
 use lib.ListN.{length, getD}
 use borrow.Author.Tests.{lt-ltb, le-ltb}
 use Rattle.rules.specs.Calls.{Costs, parse, costing}
@@ -17,7 +16,7 @@ use Rattle.rules.specs.Limits.{ruleFlags, tooManyFlags}
 use Rattle.rules.specs.Machine.{made}
 use Rattle.rules.specs.Outcome.{Outcome, gives, refuses, _then_}
 use Rattle.rules.specs.Tree.{Tree, cost, size, depth}
-use Rattle.laws.proofs.calls.Outcome.{then-refuses}
+use Rattle.laws.proofs.calls.Outcome.{gives-same, then-gives, then-refuses}
 use Rattle.expr.specs.Inner.{ended}
 use Rattle.expr.proofs.Costed.{Costed, costed-end}
 
@@ -38,11 +37,9 @@ module _ (n : ℕ) (s : List ℕ) where
 
   pub costing-gives : (c : Costs) → costing n s ≡ gives c → (t : Tree) × (parse n s ≡ gives t) × (costs t ≡ c)
   unfolding costing
-  costing-gives c e = go (parse n s) e
-    where
-      go : (o : Outcome Tree) → o then (λ t. gives (costs t)) ≡ gives c → (t : Tree) × (o ≡ gives t) × (costs t ≡ c)
-      go (gives t) h = (t, refl, (cc))
-      go (refuses k p) h = absurd (let z : _≡_ {A = ℕ} 0 1 = cc in omega arith)
+  costing-gives c e =
+      let q = then-gives (parse n s) (λ t. gives (costs t)) c e in
+      (q .0, q .1, gives-same (q .2))
 
   pub costing-refuses : (k p : ℕ) → costing n s ≡ refuses k p → parse n s ≡ refuses k p
   unfolding costing

@@ -26,7 +26,7 @@ use Rattle.rules.specs.Machine.{made}
 use Rattle.rules.specs.Outcome.{gives, refuses, refuse}
 use Rattle.rules.specs.Table.{entry, complete}
 use Rattle.rules.specs.Tree.{Tree, value, cost}
-use Rattle.laws.proofs.calls.Outcome.{gives-same, refuse-gives, then-gives}
+use Rattle.laws.proofs.calls.Outcome.{gives-same, not-both, refuse-gives, then-gives}
 use Rattle.laws.proofs.cost.Cost.{cost-rawForm}
 use Rattle.laws.proofs.reading.WellFormed.{Written, made-is, is-made}
 
@@ -87,7 +87,7 @@ unfolding judged
 judged-gives raw t [] c e =
     let q = refuse-gives (ltb raw (cost t)) _ _ _ c e in
     (refl, ltb-false raw (cost t) (q .0), sym (gives-same (q .1)))
-judged-gives raw t (x ∷ l) c e = let z : _≡_ {A = ℕ} 0 1 = cc in absurd (omega arith)
+judged-gives raw t (x ∷ l) c e = absurd (not-both (sym e))
 
 judged-differs : (raw : ℕ) (t : Tree) (l : List ℕ) (at : ℕ) → judged raw t l ≡ refuses differs at → (r : List ℕ) × (l ≡ at ∷ r)
 unfolding judged
@@ -95,7 +95,7 @@ judged-differs raw t [] at e = absurd (other (ltb raw (cost t)) e)
   where
     other : (b : Bool) → refuse b tooCostly (cost t) (gives (cost t)) ≡ refuses differs at → ⊥
     other true e = let z : _≡_ {A = ℕ} tooCostly differs = cc in omega arith
-    other false e = let z : _≡_ {A = ℕ} 0 1 = cc in omega arith
+    other false e = not-both e
 judged-differs raw t (x ∷ l) at e = (l, let q : x ≡ at = cc in ap {B = List ℕ} (λ z. z ∷ l) q)
 
 module _ (n : ℕ) (table s : List ℕ) where

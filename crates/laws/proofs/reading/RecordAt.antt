@@ -20,7 +20,7 @@ use Rattle.rules.specs.Ascii.{ascii}
 use Rattle.rules.specs.Limits.{badMark, badPayload}
 use Rattle.rules.specs.Outcome.{Outcome, gives, refuses, refuse}
 use Rattle.rules.specs.Record.{Kind, Constant, Flag, And, Or, Xor, Not, FlagBelow, Found, mark, marked, plain, loaded, recordAt}
-use Rattle.laws.proofs.calls.Outcome.{gives-same, refuse-gives, pick, pick-gives}
+use Rattle.laws.proofs.calls.Outcome.{gives-same, not-both, refuse-gives, pick, pick-gives}
 
 unfoldable pub bytesOf : Kind → List ℕ
 bytesOf (Constant b) = ascii "CO" ++ digit b ∷ []
@@ -108,7 +108,7 @@ module _ (n : ℕ) (s : List ℕ) (p : ℕ) (r : Found) where
   loaded-gives fits k e =
       let q = refuse-gives (ltb (length s) (p + 3)) _ _ _ r e in
       pick-gives fits _ _ r (λ t g. (ltb-false (length s) (p + 3) (q .0), t, g))
-      (λ t g. let z : _≡_ {A = ℕ} 0 1 = cc in absurd (omega arith)) (q .1)
+      (λ t g. absurd (not-both (sym g))) (q .1)
 
   module _ (long : p + 2 ≤ length s) where
     mark-bytes : (x y : ℕ) → y < 256 → eqb (mark (drop p s)) (x * 256 + y) ≡ true → getD s (p + 1) 0 < 256 → drop p s ≡ x ∷ y ∷ drop (p + 2) s
@@ -151,4 +151,4 @@ module _ (n : ℕ) (s : List ℕ) (p : ℕ) (r : Found) where
       (λ _. pick-gives (marked s p "OR") _ _ r (λ t. read-of Or tt long (mark-bytes long 79 82 (lit< tt) t))
       (λ _. pick-gives (marked s p "XO") _ _ r (λ t. read-of Xor tt long (mark-bytes long 88 79 (lit< tt) t))
       (λ _. pick-gives (marked s p "NO") _ _ r (λ t. read-of Not tt long (mark-bytes long 78 79 (lit< tt) t))
-      (λ _ g. let z : _≡_ {A = ℕ} 0 1 = cc in absurd (omega arith))))))) (q .1)
+      (λ _ g. absurd (not-both (sym g)))))))) (q .1)

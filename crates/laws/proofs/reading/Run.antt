@@ -8,7 +8,6 @@ use mathlib.Core.List.{List}
 use mathlib.Core.Option.{Option, none, some}
 use mathlib.Core.Path.{_≡_, sym, _∙_}
 use Prim.Native.Nat.{ℕ, zero, suc, _≤_, _<_}
-use native.Mathlib.Omega.{arith}
 use lib.ListN.{length}
 use borrow.Author.Tests.{lt-ltb, le-ltb}
 use Rattle.rules.specs.Limits.{fewOperands, manyRecords}
@@ -16,7 +15,7 @@ use Rattle.rules.specs.Machine.{push, finish, operands, run}
 use Rattle.rules.specs.Outcome.{gives, refuses, _then_}
 use Rattle.rules.specs.Record.{Found, recordAt}
 use Rattle.rules.specs.Tree.{Tree}
-use Rattle.laws.proofs.calls.Outcome.{then-gives}
+use Rattle.laws.proofs.calls.Outcome.{not-both, then-gives}
 
 -- what the machine did before it gave t: it read a record, pushed it, and gave t from there
 pub record Step (k n : ℕ) (s : List ℕ) (p : ℕ) (ts : List Tree) (t : Tree) : Type 0 where
@@ -28,7 +27,7 @@ pub record Step (k n : ℕ) (s : List ℕ) (p : ℕ) (ts : List Tree) (t : Tree)
 
 operands-gives : (p : ℕ) (o : Option (List Tree)) (us : List Tree) → operands p o ≡ gives us → o ≡ some us
 unfolding operands
-operands-gives p none us e = let z : _≡_ {A = ℕ} 0 1 = cc in absurd (omega arith)
+operands-gives p none us e = absurd (not-both (sym e))
 operands-gives p (some ts) us e = cc
 
 pub run-end : (k n : ℕ) (s : List ℕ) (p : ℕ) (ts : List Tree) → length s ≤ p → run k n s p ts ≡ finish (length s) ts

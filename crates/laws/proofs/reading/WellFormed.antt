@@ -20,7 +20,7 @@ use Rattle.rules.specs.Machine.{finish, run, made, WellFormed}
 use Rattle.rules.specs.Outcome.{gives}
 use Rattle.rules.specs.Tree.{Tree, AN, size, write, FlagsBelow}
 use Rattle.laws.proofs.reading.FlagsBelow.{flags-some}
-use Rattle.laws.proofs.calls.Outcome.{gives-same}
+use Rattle.laws.proofs.calls.Outcome.{gives-same, not-both}
 use Rattle.laws.proofs.reading.ReadBack.{run-whole, made-write}
 use Rattle.laws.proofs.reading.RecordAt.{record-read}
 use Rattle.laws.proofs.reading.Run.{run-end, run-full, run-gives}
@@ -35,21 +35,21 @@ pub record Ran (k n : ℕ) (s : List ℕ) (p : ℕ) (ts : List Tree) (t : Tree) 
 module _ (n : ℕ) (s : List ℕ) (t : Tree) where
   finished : (k p : ℕ) (ts : List Tree) → finish (length s) ts ≡ gives t → length s ≤ p → Ran k n s p ts t
   unfolding finish
-  finished k p [] e h = let z : _≡_ {A = ℕ} 0 1 = cc in absurd (omega arith)
+  finished k p [] e h = absurd (not-both (sym e))
   finished k p (u ∷ []) e h =
       subst (Ran k n s p (u ∷ [])) (gives-same e) record {
         bytes = ap (λ (l : List ℕ). write u ++ l) (drop-of-length-le s h) ∙ append-nil (write u);
         records = omega arith;
         flags = λ f. f .0;
       }
-  finished k p (u ∷ v ∷ ts) e h = let z : _≡_ {A = ℕ} 0 1 = cc in absurd (omega arith)
+  finished k p (u ∷ v ∷ ts) e h = absurd (not-both (sym e))
 
   ended : (k p : ℕ) (ts : List Tree) → run k n s p ts ≡ gives t → length s ≤ p → Ran k n s p ts t
   ended k p ts e h = finished k p ts (sym (run-end k n s p ts h) ∙ e) h
 
   pub run-is : Below 256 s → (k p : ℕ) (ts : List Tree) → run k n s p ts ≡ gives t → Ran k n s p ts t
   run-is small zero p ts e = elim (decLt p (length s)) [
-    | yes h ↦ let q = sym (run-full n s p ts h) ∙ e in let z : _≡_ {A = ℕ} 0 1 = cc in absurd (omega arith)
+    | yes h ↦ absurd (not-both (sym e ∙ run-full n s p ts h))
     | no h ↦ ended zero p ts e (omega arith)
   ]
   run-is small (suc k) p ts e = elim (decLt p (length s)) [
