@@ -1,5 +1,5 @@
 # What can be done here; `make` alone lists it.
-.PHONY: help test pages toolchain print_rule examine_rule console guide_rules python python_test bench compare unused
+.PHONY: help test pages divisions toolchain print_rule examine_rule console guide_rules python python_test bench compare unused
 .DEFAULT_GOAL := help
 # Two runs of rt would share one folder target/.
 .NOTPARALLEL:
@@ -17,7 +17,7 @@ help: ## list these commands
 	@sed -n 's/^\([a-z_]*\):[^#]*## /\1\t/p' $(MAKEFILE_LIST) | expand -t 14
 
 # The examples come after rt ci, which removes target/, so that they rest on what it proved and their libraries stay; its count stays the last line.
-test: toolchain pages ## prove everything from nothing, try the must-fail edits, run the recorded cases and the examples
+test: toolchain pages divisions ## prove everything from nothing, try the must-fail edits, run the recorded cases and the examples
 	@rt fmt --check
 	@tools/progress ci rt ci
 	@$(MAKE) --no-print-directory console guide_rules python_test
@@ -26,6 +26,9 @@ test: toolchain pages ## prove everything from nothing, try the must-fail edits,
 pages: ## see that the CHANGELOG tells of this version, that the README's table of crates and the files that comments cite are there, and that no line is too long
 	@grep -q "^## $$(cat VERSION)" CHANGELOG.md || { echo "CHANGELOG.md does not tell of version $$(cat VERSION)"; exit 1; }
 	@if command -v python3 >/dev/null; then python3 tools/layers.py --check && python3 tools/citations.py && python3 tools/lengths.py; fi
+
+divisions: ## see that the code that holds coefficients in words, with all it calls, neither divides nor takes a remainder
+	@if command -v python3 >/dev/null; then python3 -B tools/divisions.py; else echo "python3 is not installed: tools/divisions.py does not run" >&2; fi
 
 toolchain: ## see that the Rattle toolchain is there, and say where it is another than the one that this was proved with
 	@$(have_rt)

@@ -28,7 +28,7 @@ pub fn pack_word(table: &[u64], base: usize, count: usize) -> u64
 {
     let mut word = 0;
     for j in 0..count {
-        word = word | ((table[base + j] % 2) << j);
+        word = word | ((table[base + j] & 1) << j);
     }
     word
 }
@@ -50,7 +50,7 @@ fn unpack_word(word: u64, out: &mut [u64], base: usize, count: usize)
     ensures { λ _. ⌜ now (out .exit) ≡ sets (now (out .entry)) base (map (λ j. digit (bit word j)) (upto count)) ⌝ }
 {
     for j in 0..count {
-        out[base + j] = (word >> j) % 2;
+        out[base + j] = (word >> j) & 1;
     }
 }
 

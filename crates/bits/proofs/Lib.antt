@@ -2,6 +2,7 @@ pub mod AllRows
 pub mod Truth
 pub mod Bit
 pub mod Shift
+pub mod Quotient
 pub mod Mask
 pub mod Range
 pub mod Rising

@@ -1,15 +1,15 @@
 -- Words as sets of places: what an operation on words does to the list of a word's places, and tests of words as tests of their places.
 -- It rests on the laws of a word's places (Word, Places), of bits and masks (Bit, Mask) and of choices from a list (Range, Ascending).
 --   mem-bit                                    == a bit is membership
---   places-and-not, places-even                == the places of w & !v, and of w without its lowest digit
+--   places-and-not, places-but-first           == the places of w & !v, and of w & !1
 --   places-shr                                 == the places of w >> c, where w has none below c
 --   places-none, places-positive               == 0 has no place, and nothing else has none
 --   places-two                                 == the places of a word that has two
 --   any-bit, all-bit, same-places              == whether a word meets another, is within another, is the word of a list
-use mathlib.Core.Bool.{Bool, true, false, not, _&&_, and-comm, false≢true}
+use mathlib.Core.Bool.{true, not, false≢true}
 use mathlib.Core.List.{List, [], _∷_, map}
 use mathlib.Core.Path.{_≡_, refl, sym, ap, _∙_}
-use Prim.Native.Nat.{ℕ, zero, suc, _+_, _-_, _*_, _/_, _%_, _^_, _≤_, _<_}
+use Prim.Native.Nat.{ℕ, zero, suc, _+_, _-_, _/_, _^_, _≤_, _<_}
 use native.Mathlib.Nat.{zero-lt-suc, lt-of-le-of-lt}
 use native.Mathlib.Omega.{arith}
 use lib.Bits.{bitAnd, and-le-l}
@@ -19,12 +19,12 @@ use lib.ListN.{length}
 use lib.Pow.{shr-le}
 use borrow.Author.Tests.{eqb-true, eqb-false, eq-eqb, ne-eqb, ltb-true, lt-ltb}
 use Rattle.bits.specs.Bit.{bit, within}
-use Rattle.bits.specs.Range.{upto, keep, all, any, mem, same, Ascending, Below}
+use Rattle.bits.specs.Range.{keep, all, any, mem, same, Ascending, Below}
 use Rattle.bits.specs.Word.{places, word}
 use Rattle.bits.proofs.Truth.{and-intro, and-true-l, and-true-r, bool-ext}
-use Rattle.bits.proofs.Bit.{bit-and, bit-not, bit-first, bit-suc, bit-shr, bit-lt, bit-zero, nonzero-bit}
+use Rattle.bits.proofs.Bit.{bit-and, bit-not, bit-shr, bit-lt, bit-pow, bit-zero, nonzero-bit}
 use Rattle.bits.proofs.Mask.{bits-within, within-bit, ones-zero}
-use Rattle.bits.proofs.Range.{keep-keep, keep-ext, all-mem, mem-all, any-mem, mem-any, any-map, same-true, same-refl}
+use Rattle.bits.proofs.Range.{keep-ext, all-mem, mem-all, any-mem, mem-any, any-map, same-true, same-refl}
 use Rattle.bits.proofs.Ascending.{ascending-map, ascending-ext}
 use Rattle.bits.proofs.Places.{places-and}
 use Rattle.bits.proofs.Word.{ascending-places, places-lt, mem-places, word-places, places-word, ones-places, places-lowest}
@@ -43,19 +43,13 @@ places-and-not k w v h =
     ∙ keep-ext (bit ((2 ^ k - 1) - v)) (λ i. not (bit v i)) (places k w)
     (λ i m. bit-not k v i h (places-lt k w i m))
 
-bit-even : (w i : ℕ) → bit (w / 2 * 2) i ≡ (bit w i && ltb 0 i)
-bit-even w zero =
-    let e : w / 2 * 2 % 2 ≡ 0 = omega arith in
-    bit-first (w / 2 * 2) ∙ ap (λ (x : ℕ). eqb x 1) e ∙ and-comm false (bit w 0)
-bit-even w (suc i) =
-    let e : w / 2 * 2 / 2 ≡ w / 2 = omega arith in
-    bit-suc (w / 2 * 2) i ∙ ap (λ (x : ℕ). bit x i) e ∙ sym (bit-suc w i) ∙ and-comm true (bit w (suc i))
-    ∙ ap (λ (b : Bool). bit w (suc i) && b) (sym (lt-ltb 0 (suc i) (zero-lt-suc i)))
+not-first : (i : ℕ) → not (bit 1 i) ≡ ltb 0 i
+not-first zero = ap not (bit-pow 0 0)
+not-first (suc i) = ap not (bit-pow 0 (suc i) ∙ ne-eqb (suc i) 0 (λ e. omega arith)) ∙ sym (lt-ltb 0 (suc i) (zero-lt-suc i))
 
-pub places-even : (k w : ℕ) → places k (w / 2 * 2) ≡ keep (λ i. ltb 0 i) (places k w)
-unfolding places
-places-even k w =
-    keep-ext (bit (w / 2 * 2)) (λ i. bit w i && ltb 0 i) (upto k) (λ i m. bit-even w i) ∙ sym (keep-keep (λ i. ltb 0 i) (bit w) (upto k))
+pub places-but-first : (k w : ℕ) → 1 < 2 ^ k → places k (bitAnd w ((2 ^ k - 1) - 1)) ≡ keep (λ i. ltb 0 i) (places k w)
+places-but-first k w h =
+    places-and-not k w 1 h ∙ keep-ext (λ i. not (bit 1 i)) (λ i. ltb 0 i) (places k w) (λ i m. not-first i)
 
 module _ (k w c : ℕ) (h : w < 2 ^ k) (low : (i : ℕ) → bit w i ≡ true → c ≤ i) where
   least : (i : ℕ) → mem i (places k w) ≡ true → c ≤ i

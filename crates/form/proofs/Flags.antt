@@ -1,26 +1,26 @@
 -- The flags of a form of six flags, read off its word: those that occur, and those that occur as single-flag monomials.
 -- It rests on the flags' words (mask_words, Entries) and on the laws of words and of unions (bits, Sets and Union).
 --   made k d                 == the number whose digits below k are d
---   made-six, made-bits      == all six as one sum; a mask of six flags is made of its bits
+--   made-bits                == a mask of six flags is made of its bits
 --   occurs-word              == whether a flag occurs
 --   flags-made, singles-made == the flags that occur, and the single flags
 --   singles-lt, singles-below == the single flags are flags below six; so for a form
 use mathlib.Core.Bool.{Bool}
 use mathlib.Core.Path.{_≡_, sym, ap, ap₂, _∙_}
-use Prim.Native.Nat.{ℕ, zero, suc, _+_, _*_, _/_, _%_, _^_, _<_}
+use Prim.Native.Nat.{ℕ, zero, suc, _+_, _*_, _%_, _^_, _<_}
 use native.Mathlib.Nat.{mod-eq-of-lt}
 use native.Mathlib.Omega.{arith}
 use lib.Bits.{bitAnd}
 use lib.Count.{ones}
 use lib.Dec.{eqb, ltb}
 use Rattle.bits.specs.Bit.{bit, digit}
-use Rattle.bits.specs.Range.{any, keep}
+use Rattle.bits.specs.Range.{any, keep, mem}
 use Rattle.bits.specs.Sum.{union}
 use Rattle.bits.specs.Word.{places}
-use Rattle.bits.proofs.Bit.{digit-bit, mod-pow-suc}
+use Rattle.bits.proofs.Bit.{mod-pow-suc}
 use Rattle.bits.proofs.Range.{any-ext}
 use Rattle.bits.proofs.Ascending.{below-keep}
-use Rattle.bits.proofs.Sets.{any-bit, mem-bit}
+use Rattle.bits.proofs.Sets.{any-bit}
 use Rattle.bits.proofs.Union.{bit-union, union-lt, bit-union-singles}
 use Rattle.bits.proofs.Word.{below-places, places-lt}
 use Rattle.rules.specs.Cleanup.{singles}
@@ -32,9 +32,6 @@ use Rattle.form.specs.declared.Form.{Form}
 abbrev pub made : ℕ → (ℕ → ℕ) → ℕ
 made zero d = 0
 made (suc k) d = d k * 2 ^ k + made k d
-
-pub made-six : (d : ℕ → ℕ) → d 0 + d 1 * 2 + d 2 * 4 + (d 3 * 8 + d 4 * 16 + d 5 * 32) ≡ made 6 d
-made-six d = omega arith
 
 made-mod : (k u : ℕ) (d : ℕ → ℕ) → ((i : ℕ) → i < k → digit (bit u i) ≡ d i) → u % 2 ^ k ≡ made k d
 made-mod zero u d e = omega arith
@@ -62,8 +59,8 @@ singles-lt w =
 pub singles-below : (f : Form) → singles (masks f) < maskCount
 singles-below f = singles-lt (f .word)
 
-pub singles-made : (w : ℕ) → w < 2 ^ 64 → singles (places 64 w) ≡ made 6 (λ k. w / 2 ^ (2 ^ k) % 2)
+pub singles-made : (w : ℕ) → singles (places 64 w) ≡ made 6 (λ k. digit (mem (2 ^ k) (places 64 w)))
 unfolding singles
-singles-made w h =
-    made-bits (singles (places 64 w)) (λ k. w / 2 ^ (2 ^ k) % 2) (singles-lt w)
-    (λ k l. ap digit (bit-union-singles (places 64 w) k ∙ mem-bit 64 w (2 ^ k) h) ∙ digit-bit w (2 ^ k))
+singles-made w =
+    let l = places 64 w in
+    made-bits (singles l) (λ k. digit (mem (2 ^ k) l)) (singles-lt w) (λ k h. ap digit (bit-union-singles l k))

@@ -52,18 +52,26 @@ impl Form {
         self.word == 0
     }
 
+    // 1 where a mask is in the form, else 0.
+    fn has(self, mask: usize) -> usize
+        requires { ⌜ mask < maskCount ⌝ }
+        ensures { λ r. ⌜ (r ≡ digit (mem mask (masks self))) × (r ≤ 1) ⌝ }
+    {
+        ((self.word >> mask) & 1) as usize
+    }
+
     // The constant, 0 or 1.
     pub fn constant(self) -> usize
         ensures { λ r. ⌜ r ≡ digit (monomial.constant (masks self)) ⌝ }
     {
-        (self.word % 2) as usize
+        self.has(0)
     }
 
     // How many monomials there are.
     pub fn count(self) -> usize
         ensures { λ r. ⌜ r ≡ length (monomial.monomials (masks self)) ⌝ }
     {
-        mask_words::ones(self.word / 2)
+        mask_words::ones(self.word & !1)
     }
 
     // The two monomials of a form that has just two.
@@ -71,7 +79,7 @@ impl Form {
         requires { ⌜ length (monomial.monomials (masks self)) ≡ 2 ⌝ }
         ensures { λ r. ⌜ monomial.monomials (masks self) ≡ r .first ∷ r .second ∷ [] ⌝ }
     {
-        let both = self.word / 2 * 2;
+        let both = self.word & !1;
         let first = u64::trailing_zeros(both) as usize;
         let second = u64::trailing_zeros(both & (both - 1)) as usize;
         Pair { first, second }
@@ -81,10 +89,9 @@ impl Form {
     pub fn singles(self) -> usize
         ensures { λ r. ⌜ r ≡ paper.singles (masks self) ⌝ }
     {
-        let word = self.word;
-        let low = (word >> 1) % 2 + (word >> 2) % 2 * 2 + (word >> 4) % 2 * 4;
-        let high = (word >> 8) % 2 * 8 + (word >> 16) % 2 * 16 + (word >> 32) % 2 * 32;
-        (low + high) as usize
+        let low = self.has(1) + self.has(2) * 2 + self.has(4) * 4;
+        let high = self.has(8) * 8 + self.has(16) * 16 + self.has(32) * 32;
+        low + high
     }
 
     // 1 where a flag occurs, else 0.
@@ -155,7 +162,7 @@ impl Form {
         ensures { λ r. ⌜ r ≡ paper.isFamily (masks self) ⌝ }
     {
         let singles = self.singles();
-        (0 < singles) & (self.word / 2 * 2 == mask_words::subsets(singles, lookup))
+        (0 < singles) & (self.word & !1 == mask_words::subsets(singles, lookup))
     }
 
     // The monomials that contain the whole cube, without its flags: a mask that loses the cube's flags moves down by the cube's number.

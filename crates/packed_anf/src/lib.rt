@@ -21,7 +21,7 @@ pub fn word_count(flags: usize) -> usize
     requires { ⌜ flags ≤ formFlags ⌝ }
     ensures { λ r. ⌜ r ≡ wordCount flags ⌝ }
 {
-    (setting_count(flags) + 63) / 64
+    word_of(setting_count(flags) + 63)
 }
 
 // Whether a coefficient at 2 ^ flags or above is 1 in the words of that many flags. Only with fewer than six flags is there room for one.
@@ -40,7 +40,7 @@ pub fn low_bits(flags: usize, first: u64) -> u64
     requires { ⌜ flags < 6 ⌝ }
     ensures { λ r. ⌜ r ≡ first % 2 ^ (2 ^ flags) ⌝ }
 {
-    first % (1 << setting_count(flags))
+    first & ((1 << setting_count(flags)) - 1)
 }
 
 // Coefficient m, as 0 or 1.
@@ -48,7 +48,7 @@ pub fn get(words: &[u64], m: usize) -> u64
     requires { ⌜ m / 64 < length (now words) ⌝ }
     ensures { λ r. ⌜ r ≡ digit (packed (now (words .entry)) m) ⌝ }
 {
-    (words[m / 64] >> (m % 64)) & 1
+    (words[word_of(m)] >> bit_of(m)) & 1
 }
 
 // Coefficient m becomes 1.
@@ -56,5 +56,20 @@ pub fn set(words: &mut [u64], m: usize)
     requires { ⌜ m / 64 < length (now words) ⌝ }
     ensures { λ _. ⌜ Raised (now (words .entry)) m (now (words .exit)) ⌝ }
 {
-    words[m / 64] = words[m / 64] | (1 << (m % 64));
+    let i = word_of(m);
+    words[i] = words[i] | (1 << bit_of(m));
+}
+
+// Which word holds coefficient m: "a coefficient's place comes from its number by 64", here without dividing.
+fn word_of(m: usize) -> usize
+    ensures { λ r. ⌜ r ≡ m / 64 ⌝ }
+{
+    m >> 6
+}
+
+// At which bit of that word it stands.
+fn bit_of(m: usize) -> usize
+    ensures { λ r. ⌜ r ≡ m % 64 ⌝ }
+{
+    m & 63
 }

@@ -25,10 +25,10 @@ use Rattle.bits.proofs.Mask.{and-pow, ones-pow}
 use Rattle.bits.proofs.Range.{keep-keep, keep-ext, keep-false, all-mem, mem-upto, mem-from}
 use Rattle.bits.proofs.Ascending.{below-mem}
 use Rattle.bits.proofs.Places.{ones-and, length-total}
-use Rattle.bits.proofs.Sets.{places-even}
 use Rattle.bits.proofs.Sum.{plus-laws, sum-op, sum-unit, sum-ext-mem}
 use Rattle.bits.proofs.Word.{below-places}
 use Rattle.rules.specs.Cleanup.{covered}
+use Rattle.form.proofs.WordOperations.{monomialWord, monomials-word, monomialWord-lt}
 use Rattle.search.specs.Inner.{reach, Reached}
 
 abbrev more : Bool → ℕ → ℕ
@@ -162,18 +162,18 @@ module _ (w : ℕ) (h : w < 2 ^ 64) where
 
 -- ---- the search
 
-module _ (w one two : ℕ) (h : w < 2 ^ 64) (r : Reached (w / 2 * 2) 6 one two) where
+module _ (w one two : ℕ) (h : w < 2 ^ 64) (r : Reached (monomialWord w) 6 one two) where
   shared : (c : ℕ) → mem c (from 1 63) ≡ true → (bit two c && ltb 0 c) ≡ leb 2 (length (covered c (places 64 w)))
   unfolding covered
   shared c e =
       let u = sym (mem-from 1 63 c) ∙ e in
       let k = ltb-true c 64 (and-true-r (leb 1 c) (ltb c 64) u) in
       ap (λ (b : Bool). bit two c && b) (and-true-l (leb 1 c) (ltb c 64) u) ∙ and-true (bit two c) ∙ r .twice c
-      ∙ ap (ltb 1) (reach-six (w / 2 * 2) (omega arith) c k ∙ ap (λ (l : List ℕ). length (keep (λ m. within c m) l)) (places-even 64 w))
+      ∙ ap (ltb 1) (reach-six (monomialWord w) (monomialWord-lt w h) c k ∙ ap (λ (l : List ℕ). length (keep (λ m. within c m) l)) (monomials-word w))
 
-  pub shared-word : places 64 (two / 2 * 2) ≡ keep (λ c. leb 2 (length (covered c (places 64 w)))) (from 1 63)
+  pub shared-word : places 64 (monomialWord two) ≡ keep (λ c. leb 2 (length (covered c (places 64 w)))) (from 1 63)
   unfolding places from
   shared-word =
-      places-even 64 two ∙ keep-keep (λ i. ltb 0 i) (bit two) (upto 64)
+      monomials-word two ∙ keep-keep (λ i. ltb 0 i) (bit two) (upto 64)
       ∙ keep-false (λ i. bit two i && ltb 0 i) 0 (from 1 63) (and-false (bit two 0))
       ∙ keep-ext (λ i. bit two i && ltb 0 i) (λ c. leb 2 (length (covered c (places 64 w)))) (from 1 63) shared

@@ -63,7 +63,7 @@ pub fn best_family(form: Form, lookup: &Lookup) -> Family
     requires { ⌜ now lookup ≡ lookupWords ⌝ }
     ensures { λ r. ⌜ familyOf r ≡ positive (paper.bestFamily (masks form)) ⌝ }
 {
-    let monomials = form.word / 2 * 2;
+    let monomials = form.word & !1;
     let mut left = monomials & mask_words::subsets(form.singles(), lookup);
     let mut best = 0;
     while left != 0 {
@@ -104,7 +104,7 @@ pub fn shared_cubes(form: Form) -> Cubes
 {
     let words = mask_words::flag_words();
     let mut found = Contained {
-        once: form.word / 2 * 2,
+        once: form.word & !1,
         twice: 0,
     };
     found = without_flag(found, words[0], 1);
@@ -113,7 +113,7 @@ pub fn shared_cubes(form: Form) -> Cubes
     found = without_flag(found, words[3], 8);
     found = without_flag(found, words[4], 16);
     found = without_flag(found, words[5], 32);
-    let word = found.twice / 2 * 2;
+    let word = found.twice & !1;
     Cubes { word }
 }
 

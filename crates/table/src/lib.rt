@@ -53,7 +53,7 @@ impl Table {
         requires { ⌜ setting < 2 ^ ruleFlags ⌝ }
         ensures { λ r. ⌜ r ≡ truth self setting ⌝ }
     {
-        (self.bits >> setting) % 2 == 1
+        (self.bits >> setting) & 1 == 1
     }
 
     // The form of the table's algebraic normal form.
@@ -99,5 +99,5 @@ fn low_settings(flags: usize, word: u64) -> u64
 fn low_bit(byte: u8) -> u64
     ensures { λ r. ⌜ r ≡ byte % 2 ⌝ }
 {
-    (byte % 2) as u64
+    (byte & 1) as u64
 }

@@ -1,9 +1,13 @@
--- `packed_anf::low_bits` meets its contract: fewer than six flags have at most 32 settings, so the shifted one stands inside the word.
+-- `packed_anf::low_bits` meets its contract: fewer than six flags have at most 32 settings, so the shifted one stands inside the word, and one less
+-- is a mask of as many ones as there are settings (bits, Quotient).
 use mathlib.Core.Path.{ap, _∙_}
-use Prim.Native.Nat.{ℕ, _%_, _^_, _≤_}
+use Prim.Native.Nat.{ℕ, _-_, _%_, _^_, _≤_}
 use native.Mathlib.Omega.{arith}
 use borrow.Author.Needs.{needs}
+use lib.Bits.{bitAnd}
 use lib.Pow.{pow-pos, pow-mono}
+use mir.Syntax.{w64}
+use Rattle.bits.proofs.Quotient.{shift-mask}
 use Rattle.bits.proofs.Shift.{one-shl}
 use Rattle.packed_anf.proofs.low_bits.Statement.{statement}
 use Rattle.packed_anf.proofs.low_bits.Tie as tie
@@ -20,15 +24,18 @@ place c =
 shl-result : tie.Need-shl-result
 shl-result c = omega (arith, place c)
 
-rem-result : tie.Need-rem-result
-rem-result c =
-    let h : 2 ^ c .setting-count .result ≤ 2 ^ 32 = pow-mono (place c) in
-    omega (arith, pow-pos (c .setting-count .result))
+sub-result : tie.Need-sub-result
+sub-result c =
+    let s = c .setting-count .result in
+    omega (arith, one-shl 64 s (omega (arith, place c)), pow-pos s)
 
 returns : tie.Need-returns
 returns c =
     let s = c .setting-count in
-    ap (λ (k : ℕ). c .before .args .first % k) (one-shl 64 (s .result) (omega (arith, place c)) ∙ ap (λ (k : ℕ). 2 ^ k) (s .ensures))
+    let first = c .before .args .first in
+    ap (λ (x : ℕ). bitAnd first (x - 1)) (one-shl 64 (s .result) (omega (arith, place c)))
+    ∙ shift-mask w64 first (s .result) .1
+    ∙ ap (λ (k : ℕ). first % 2 ^ k) (s .ensures)
 
 pub low-bits-spec : {M : Type 1} → statement M
-low-bits-spec = tie.close (tie.spec setting-count-requires shl-result rem-result returns)
+low-bits-spec = tie.close (tie.spec setting-count-requires shl-result sub-result returns)

@@ -1,6 +1,6 @@
 -- `packed_anf::set` meets its contract: the one that it puts in stands inside the word, so nothing of it is lost, and the store is that of Raised.
-use mathlib.Core.Path.{sym, subst}
-use Prim.Native.Nat.{ℕ, _/_, _%_}
+use mathlib.Core.Path.{sym, ap, ap₂, subst, _∙_}
+use Prim.Native.Nat.{ℕ, _*_, _/_, _%_, _^_}
 use native.Mathlib.Omega.{arith}
 use borrow.Author.Needs.{needs}
 use lib.Bits.{bitOr}
@@ -11,11 +11,17 @@ use Rattle.packed_anf.proofs.Raised.{raised}
 use Rattle.packed_anf.proofs.set.Statement.{statement}
 use Rattle.packed_anf.proofs.set.Tie as tie
 
+word-of-requires : tie.Need-word-of-requires
+word-of-requires c κs = search needs
+
 mul-words : tie.Need-mul-words
 mul-words c = search needs
 
 slice-read-words : tie.Need-slice-read-words
 slice-read-words c = search needs
+
+bit-of-requires : tie.Need-bit-of-requires
+bit-of-requires c κs = search needs
 
 shl-words : tie.Need-shl-words
 shl-words c = search needs
@@ -31,17 +37,23 @@ same-length c = search needs
 
 returns : tie.Need-returns
 returns c =
-    let m = c .before .args .m in
-    let ws = c .before .args .words .now in
-    subst (λ (x : ℕ). Raised ws m (set ws (m / 64) (bitOr (getD ws (m / 64) 0) x)))
-    (sym (one-shl 64 (m % 64) (omega arith))) (raised ws m (c .before .pre))
+    let i = c .before .before in
+    let m = i .before .before .args .m in
+    let ws = i .before .before .args .words .now in
+    subst (Raised ws m)
+    (sym
+    (ap₂ (λ (j k : ℕ). set ws j (bitOr (getD ws j 0) (1 * 2 ^ k % 2 ^ 64))) (i .word-of .ensures) (c .bit-of .ensures)
+    ∙ ap (λ (x : ℕ). set ws (m / 64) (bitOr (getD ws (m / 64) 0) x)) (one-shl 64 (m % 64) (omega arith))))
+    (raised ws m (i .before .before .pre))
 
 pub set-spec : {M : Type 1} → statement M
 set-spec =
     tie.close
     (tie.spec
+    word-of-requires
     mul-words
     slice-read-words
+    bit-of-requires
     shl-words
     mul-words-2
     slice-write-words

@@ -10,14 +10,17 @@ use Rattle.packed_anf.proofs.word_count.Tie as tie
 setting-count-requires : tie.Need-setting-count-requires
 setting-count-requires c κs = search needs
 
-add-result : tie.Need-add-result
-add-result c =
+add-word-of : tie.Need-add-word-of
+add-word-of c =
     let h : 2 ^ c .before .args .flags ≤ 2 ^ 16 = pow-mono (c .before .pre) in
     omega arith
+
+word-of-requires : tie.Need-word-of-requires
+word-of-requires c κs = search needs
 
 returns : tie.Need-returns
 unfolding wordCount
 returns c = omega arith
 
 pub word-count-spec : {M : Type 1} → statement M
-word-count-spec = tie.close (tie.spec setting-count-requires add-result returns)
+word-count-spec = tie.close (tie.spec setting-count-requires add-word-of word-of-requires returns)

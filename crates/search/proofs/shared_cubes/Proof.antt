@@ -1,8 +1,8 @@
 -- `search::shared_cubes` meets its contract: its six steps add the six flags, one after the other (Shared), by the words of the masks that have a
 -- flag (mask_words, Entries).
 use mathlib.Core.Path.{refl}
-use Prim.Native.Nat.{_*_, _/_}
 use native.Mathlib.Omega.{arith}
+use Rattle.form.proofs.WordOperations.{monomialWord}
 use Rattle.mask_words.proofs.Entries.{bit-flag}
 use Rattle.search.proofs.Shared.{reached-start, shared-word}
 use borrow.Author.Needs.{needs}
@@ -11,9 +11,6 @@ use Rattle.search.proofs.shared_cubes.Tie as tie
 
 flag-words-requires : tie.Need-flag-words-requires
 flag-words-requires c κs = search needs
-
-mul-without-flag : tie.Need-mul-without-flag
-mul-without-flag c = search needs
 
 array-read-without-flag : tie.Need-array-read-without-flag
 array-read-without-flag c = search needs
@@ -51,9 +48,6 @@ array-read-without-flag-6 c = search needs
 without-flag-requires-6 : tie.Need-without-flag-requires-6
 without-flag-requires-6 c κs = search needs
 
-mul-word : tie.Need-mul-word
-mul-word c = search needs
-
 returns : tie.Need-returns
 returns c =
     let f = c .before in
@@ -64,7 +58,7 @@ returns c =
     let a = b .before in
     let words = a .before .before in
     let w = words .before .args .form .word in
-    let v = w / 2 * 2 in
+    let v = monomialWord w in
     let flag = bit-flag (words .flag-words .result) (words .flag-words .ensures) in
     let r1 = a .without-flag .ensures v 0 refl (flag 0 (omega arith)) (reached-start v) in
     let r2 = b .without-flag2 .ensures v 1 refl (flag 1 (omega arith)) r1 in
@@ -79,7 +73,6 @@ shared-cubes-spec =
     tie.close
     (tie.spec
     flag-words-requires
-    mul-without-flag
     array-read-without-flag
     without-flag-requires
     array-read-without-flag-2
@@ -92,5 +85,4 @@ shared-cubes-spec =
     without-flag-requires-5
     array-read-without-flag-6
     without-flag-requires-6
-    mul-word
     returns)

@@ -5,13 +5,15 @@ use mathlib.Core.Path.{_≡_, sym, ap, ap₂, _∙_}
 use Prim.Native.Nat.{ℕ, _+_, _-_, _*_, _%_, _^_, _≤_}
 use native.Mathlib.Omega.{arith}
 use borrow.Author.Needs.{needs}
-use lib.Bits.{bitOr}
+use lib.Bits.{bitAnd, bitOr}
 use lib.ListN.{getD}
 use lib.Pow.{shl-exact}
+use mir.Syntax.{w64}
 use Rattle.bits.specs.Bit.{digit}
 use Rattle.bits.specs.Range.{keep, upto}
 use Rattle.bits.specs.Word.{word}
 use Rattle.bits.proofs.Bit.{digit-bit}
+use Rattle.bits.proofs.Quotient.{shift-mask}
 use Rattle.bits.proofs.WordParts.{word-none, word-more}
 use Rattle.rules.specs.Table.{entry}
 use Rattle.anf_transform.proofs.pack.pack_word.Statement.{statement}
@@ -53,8 +55,9 @@ loop-again c =
     let s = c .before .before .before in
     let l = c .before .before .loop in
     let x = getD (s .args .table .now) (s .args .base + l .j) 0 in
-    let d : x % 2 ≡ digit (low s (l .j)) = omega (arith, digit-bit x 0) in
-    let e : (x % 2) * 2 ^ l .j % 2 ^ 64 ≡ (x % 2) * 2 ^ l .j = shl-exact 1 (l .j) 64 (omega arith) (omega arith) in (
+    let r : bitAnd x 1 ≡ x % 2 = shift-mask w64 x 1 .1 in
+    let d : bitAnd x 1 ≡ digit (low s (l .j)) = omega (arith, r, digit-bit x 0) in
+    let e : bitAnd x 1 * 2 ^ l .j % 2 ^ 64 ≡ bitAnd x 1 * 2 ^ l .j = shl-exact 1 (l .j) 64 (omega (arith, r)) (omega arith) in (
       search needs,
       ap₂ bitOr (l .inv .1) (e ∙ ap (λ (k : ℕ). k * 2 ^ l .j) d) ∙ sym (word-more (low s) (l .j)),
     )

@@ -1,11 +1,13 @@
--- `form::Form::constant` meets its contract: the word's lowest digit is its bit 0, the constant's.
-use native.Mathlib.Omega.{arith}
-use Rattle.form.proofs.WordOperations.{constant-word}
+-- `form::Form::constant` meets its contract: the constant is the mask 0.
+use borrow.Author.Needs.{needs}
 use Rattle.form.proofs.Form.constant.Statement.{statement}
 use Rattle.form.proofs.Form.constant.Tie as tie
 
+has-requires : tie.Need-has-requires
+has-requires c κs = search needs
+
 returns : tie.Need-returns
-returns c = constant-word (c .before .args .self .word) (omega arith)
+returns c = c .has .ensures .0
 
 pub constant-spec : {M : Type 1} → statement M
-constant-spec = tie.close (tie.spec returns)
+constant-spec = tie.close (tie.spec has-requires returns)

@@ -1,4 +1,4 @@
--- `form::Form::count` meets its contract: half the word has a one for each monomial.
+-- `form::Form::count` meets its contract: without the constant the word has a one for each monomial.
 use mathlib.Core.Path.{_∙_}
 use native.Mathlib.Omega.{arith}
 use borrow.Author.Needs.{needs}
