@@ -8,6 +8,7 @@ TABLE = 0111
 RULE = VA0 VA1 OR
 sources = crates.txt $(shell find crates -name '*.rt' -o -name '*.antt')
 have_rt = command -v rt >/dev/null || { echo "needs rt, the Rattle toolchain's command, on the PATH"; exit 1; }
+no_python = echo "python3 is not installed: what \`make $@' looks at is not looked at" >&2
 have_cc = command -v cc >/dev/null || { echo "needs cc, a C compiler, on the PATH"; exit 1; }
 cc = cc -std=c99 -Wall -Wextra -Wpedantic -Werror -Iinclude
 # Runs a C example, under valgrind where that is installed, and compares what it writes with its .expected file.
@@ -23,12 +24,12 @@ test: toolchain pages divisions ## prove everything from nothing, try the must-f
 	@$(MAKE) --no-print-directory console guide_rules python_test
 	@tail -n 1 target/ci.log
 
-pages: ## see that the CHANGELOG tells of this version, that the README's table of crates and the files that comments cite are there, and that no line is too long
+pages: ## see that version, table of crates, citations and line lengths are right
 	@grep -q "^## $$(cat VERSION)" CHANGELOG.md || { echo "CHANGELOG.md does not tell of version $$(cat VERSION)"; exit 1; }
-	@if command -v python3 >/dev/null; then python3 tools/layers.py --check && python3 tools/citations.py && python3 tools/lengths.py; fi
+	@if command -v python3 >/dev/null; then python3 tools/layers.py --check && python3 tools/citations.py && python3 tools/lengths.py; else $(no_python); fi
 
-divisions: ## see that the code that holds coefficients in words, with all it calls, neither divides nor takes a remainder
-	@if command -v python3 >/dev/null; then python3 -B tools/divisions.py; else echo "python3 is not installed: tools/divisions.py does not run" >&2; fi
+divisions: ## see that the code that gets or sets coefficients, with all it calls, does not divide
+	@if command -v python3 >/dev/null; then python3 -B tools/divisions.py; else $(no_python); fi
 
 toolchain: ## see that the Rattle toolchain is there, and say where it is another than the one that this was proved with
 	@$(have_rt)

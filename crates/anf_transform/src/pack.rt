@@ -1,4 +1,4 @@
-// Between table entries and bits: entries are packed into words, and words are unpacked into entries 0 and 1.
+// Between table entries and bits: entries are packed into words, and words are unpacked into entries 0 and 1. It rests on `packed_anf`.
 ghost use mathlib.Core.List.{map};
 ghost use mathlib.Core.Path.{_≡_};
 ghost use Prim.Native.Nat.{_+_, _^_, _≤_, min};

@@ -1,24 +1,31 @@
 -- Quotient and remainder by a power of two without dividing. The language defines a shift to the right by k as the quotient by 2 ^ k; a mask of k
--- ones gives the remainder. It rests on the language's operations (mir.Val) and on the library's law of masks (lib.Bits).
---   number v         == the number that a value holds
---   shift-mask       == both, for numbers of w bits
-use mathlib.Core.Path.{_≡_, refl}
+-- ones gives the remainder. It rests on the language's operations (mir.Val), on the library's law of masks (lib.Bits) and on the laws of bits (Bit).
+--   ShiftMask w x k  == x >> k is the quotient and x & (2 ^ k - 1) the remainder, for operations of width w
+--   shift-mask       == they are
+--   shift-digit      == bit i of a number, by a shift and a mask
+use mathlib.Core.Path.{_≡_, refl, sym, _∙_}
 use Prim.Native.Nat.{ℕ, _-_, _/_, _%_, _^_}
-use mir.Syntax.{Width, w8, w16, w32, w64, w128, unsigned, shr, bitAnd}
+use mir.Syntax as op
+use mir.Syntax.{Width, w8, w16, w32, w64, w128, unsigned, shr}
 use mir.Val.{Val, vint, asInt, op2Val}
-use lib.Bits.{and-mask}
+use lib.Bits.{bitAnd, and-mask}
+use Rattle.bits.specs.Bit.{bit, digit}
+use Rattle.bits.proofs.Bit.{digit-bit}
 
-abbrev pub number : Val → ℕ
-number v = asInt 0 v (λ w x. x)
+-- the number that a value holds
+abbrev held : Val → ℕ
+held v = asInt 0 v (λ w x. x)
 
--- x >> k and x & (2 ^ k - 1)
-abbrev pub ShiftMask : Width → ℕ → ℕ → Type 0
-ShiftMask w x k =
-    (number (op2Val (shr unsigned) (vint w x) (vint w k)) ≡ x / 2 ^ k) × (number (op2Val bitAnd (vint w x) (vint w (2 ^ k - 1))) ≡ x % 2 ^ k)
+pub record ShiftMask (w : Width) (x k : ℕ) : Type 0 where
+  pub quotient : held (op2Val (shr unsigned) (vint w x) (vint w k)) ≡ x / 2 ^ k
+  pub remainder : held (op2Val op.bitAnd (vint w x) (vint w (2 ^ k - 1))) ≡ x % 2 ^ k
 
 pub shift-mask : (w : Width) (x k : ℕ) → ShiftMask w x k
-shift-mask w8 x k = (refl, and-mask x k)
-shift-mask w16 x k = (refl, and-mask x k)
-shift-mask w32 x k = (refl, and-mask x k)
-shift-mask w64 x k = (refl, and-mask x k)
-shift-mask w128 x k = (refl, and-mask x k)
+shift-mask w8 x k = record { quotient = refl; remainder = and-mask x k }
+shift-mask w16 x k = record { quotient = refl; remainder = and-mask x k }
+shift-mask w32 x k = record { quotient = refl; remainder = and-mask x k }
+shift-mask w64 x k = record { quotient = refl; remainder = and-mask x k }
+shift-mask w128 x k = record { quotient = refl; remainder = and-mask x k }
+
+pub shift-digit : (w i : ℕ) → bitAnd (w / 2 ^ i) 1 ≡ digit (bit w i)
+shift-digit w i = shift-mask w64 (w / 2 ^ i) 1 .remainder ∙ sym (digit-bit w i)

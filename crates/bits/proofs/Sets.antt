@@ -1,7 +1,7 @@
 -- Words as sets of places: what an operation on words does to the list of a word's places, and tests of words as tests of their places.
 -- It rests on the laws of a word's places (Word, Places), of bits and masks (Bit, Mask) and of choices from a list (Range, Ascending).
 --   mem-bit                                    == a bit is membership
---   places-and-not, places-but-first           == the places of w & !v, and of w & !1
+--   places-and-not, places-nonzero             == the places of w & !v, and of w & !1
 --   places-shr                                 == the places of w >> c, where w has none below c
 --   places-none, places-positive               == 0 has no place, and nothing else has none
 --   places-two                                 == the places of a word that has two
@@ -43,13 +43,13 @@ places-and-not k w v h =
     ∙ keep-ext (bit ((2 ^ k - 1) - v)) (λ i. not (bit v i)) (places k w)
     (λ i m. bit-not k v i h (places-lt k w i m))
 
-not-first : (i : ℕ) → not (bit 1 i) ≡ ltb 0 i
-not-first zero = ap not (bit-pow 0 0)
-not-first (suc i) = ap not (bit-pow 0 (suc i) ∙ ne-eqb (suc i) 0 (λ e. omega arith)) ∙ sym (lt-ltb 0 (suc i) (zero-lt-suc i))
+bit-one : (i : ℕ) → not (bit 1 i) ≡ ltb 0 i
+bit-one zero = ap not (bit-pow 0 0)
+bit-one (suc i) = ap not (bit-pow 0 (suc i) ∙ ne-eqb (suc i) 0 (λ e. omega arith)) ∙ sym (lt-ltb 0 (suc i) (zero-lt-suc i))
 
-pub places-but-first : (k w : ℕ) → 1 < 2 ^ k → places k (bitAnd w ((2 ^ k - 1) - 1)) ≡ keep (λ i. ltb 0 i) (places k w)
-places-but-first k w h =
-    places-and-not k w 1 h ∙ keep-ext (λ i. not (bit 1 i)) (λ i. ltb 0 i) (places k w) (λ i m. not-first i)
+pub places-nonzero : (k w : ℕ) → 1 < 2 ^ k → places k (bitAnd w ((2 ^ k - 1) - 1)) ≡ keep (λ i. ltb 0 i) (places k w)
+places-nonzero k w h =
+    places-and-not k w 1 h ∙ keep-ext (λ i. not (bit 1 i)) (λ i. ltb 0 i) (places k w) (λ i m. bit-one i)
 
 module _ (k w c : ℕ) (h : w < 2 ^ k) (low : (i : ℕ) → bit w i ≡ true → c ≤ i) where
   least : (i : ℕ) → mem i (places k w) ≡ true → c ≤ i

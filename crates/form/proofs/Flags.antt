@@ -1,7 +1,6 @@
 -- The flags of a form of six flags, read off its word: those that occur, and those that occur as single-flag monomials.
 -- It rests on the flags' words (mask_words, Entries) and on the laws of words and of unions (bits, Sets and Union).
 --   made k d                 == the number whose digits below k are d
---   made-bits                == a mask of six flags is made of its bits
 --   occurs-word              == whether a flag occurs
 --   flags-made, singles-made == the flags that occur, and the single flags
 --   singles-lt, singles-below == the single flags are flags below six; so for a form
@@ -38,7 +37,7 @@ made-mod zero u d e = omega arith
 made-mod (suc k) u d e =
     mod-pow-suc u k ∙ ap₂ (λ (x r : ℕ). x * 2 ^ k + r) (e k (omega arith)) (made-mod k u d (λ i l. e i (omega arith)))
 
-pub made-bits : (u : ℕ) (d : ℕ → ℕ) → u < 64 → ((i : ℕ) → i < 6 → digit (bit u i) ≡ d i) → u ≡ made 6 d
+made-bits : (u : ℕ) (d : ℕ → ℕ) → u < 64 → ((i : ℕ) → i < 6 → digit (bit u i) ≡ d i) → u ≡ made 6 d
 made-bits u d h e = sym (mod-eq-of-lt h) ∙ made-mod 6 u d e
 
 pub occurs-word : (w : ℕ) → w < 2 ^ 64 → (k : ℕ) → any (λ m. bit m k) (places 64 w) ≡ ltb 0 (bitAnd w (flagWord k))

@@ -1,8 +1,11 @@
 -- The parts of a form that document 01 speaks of, made by operations on the form's word.
--- It rests on the laws of words as sets of places (bits, Sets), on the words about masks (mask_words, Entries) and on the laws of covered monomials
--- (laws, Covered).
---   has-word, count-word                         == whether a mask is in it; how many monomials there are
---   monomialWord, monomials-word, … == the word of the monomials
+-- It rests on the laws of words as sets of places (bits, Sets), of shifts and masks (bits, Quotient), on the words about masks (mask_words, Entries),
+-- on the single flags (Flags) and on the laws of covered monomials, families and literals (laws, Covered, Family, Literals).
+--   coefficient-word                             == the coefficient of a mask
+--   nonzeroWord w                                == w & !1, the word without its place 0
+--   places-nonzeroWord                           == its places are the monomials
+--   nonzeroWord-even, nonzeroWord-lt             == it is even, and of 64 bits where w is
+--   count-word                                   == how many monomials there are
 --   pair-positive, pair-word                     == the two monomials of a form that has two
 --   family-word                                  == whether the form is a whole family
 --   uncovered-word, without-word                 == the masks that do not contain a cube, and those outside a family
@@ -17,17 +20,15 @@ use lib.Bits.{bitAnd, and-le-l, and-mod, and-zero-r}
 use lib.Count.{ones, trailingZeros}
 use lib.Dec.{ltb, eqb, lit<}
 use lib.ListN.{length}
-use mir.Syntax.{w64}
 use Rattle.bits.specs.Bit.{bit, digit, within}
 use Rattle.bits.specs.Range.{keep, mem, same}
 use Rattle.bits.specs.Word.{places}
-use Rattle.bits.proofs.Bit.{digit-bit}
 use Rattle.bits.proofs.Mask.{within-le}
-use Rattle.bits.proofs.Quotient.{shift-mask}
+use Rattle.bits.proofs.Quotient.{shift-digit}
 use Rattle.bits.proofs.Range.{keep-ext, keep-keep}
 use Rattle.bits.proofs.Word.{places-lt, ones-places}
 use Rattle.bits.proofs.Places.{places-and}
-use Rattle.bits.proofs.Sets.{mem-bit, places-and-not, places-but-first, places-shr, places-positive, places-two, same-places}
+use Rattle.bits.proofs.Sets.{mem-bit, places-and-not, places-nonzero, places-shr, places-positive, places-two, same-places}
 use Rattle.rules.specs.Cleanup.{family, singles, isFamily, covered, stripped}
 use Rattle.rules.specs.Form.{literals}
 use Rattle.rules.specs.Monomial.{monomials}
@@ -65,46 +66,45 @@ module _ (w c : ℕ) where
       places-and-not 64 w (subsetWord c) (subsets-lt c k)
       ∙ keep-ext (λ m. not (bit (subsetWord c) m)) (λ m. not (mem m (family c))) (places 64 w) (λ m e. ap not (bit-subsets c m))
 
--- w & !1, without the constant
-abbrev pub monomialWord : ℕ → ℕ
-monomialWord w = bitAnd w ((2 ^ 64 - 1) - 1)
+abbrev pub nonzeroWord : ℕ → ℕ
+nonzeroWord w = bitAnd w ((2 ^ 64 - 1) - 1)
 
-pub monomials-word : (w : ℕ) → places 64 (monomialWord w) ≡ monomials (places 64 w)
-monomials-word w = places-but-first 64 w (lit< tt)
+pub places-nonzeroWord : (w : ℕ) → places 64 (nonzeroWord w) ≡ monomials (places 64 w)
+places-nonzeroWord w = places-nonzero 64 w (lit< tt)
 
-pub monomialWord-even : (w : ℕ) → monomialWord w % 2 ≡ 0
-monomialWord-even w = and-mod w ((2 ^ 64 - 1) - 1) 1 ∙ and-zero-r (w % 2)
+pub nonzeroWord-even : (w : ℕ) → nonzeroWord w % 2 ≡ 0
+nonzeroWord-even w = and-mod w ((2 ^ 64 - 1) - 1) 1 ∙ and-zero-r (w % 2)
 
 module _ (w : ℕ) (h : w < 2 ^ 64) where
-  pub has-word : (m : ℕ) → bitAnd (w / 2 ^ m) 1 ≡ digit (mem m (places 64 w))
-  has-word m = shift-mask w64 (w / 2 ^ m) 1 .1 ∙ sym (ap digit (mem-bit 64 w m h) ∙ digit-bit w m)
+  pub coefficient-word : (m : ℕ) → bitAnd (w / 2 ^ m) 1 ≡ digit (mem m (places 64 w))
+  coefficient-word m = shift-digit w m ∙ sym (ap digit (mem-bit 64 w m h))
 
   abbrev v : ℕ
-  v = monomialWord w
+  v = nonzeroWord w
 
-  pub monomialWord-lt : monomialWord w < 2 ^ 64
-  monomialWord-lt = lt-of-le-of-lt (and-le-l w ((2 ^ 64 - 1) - 1)) h
+  pub nonzeroWord-lt : nonzeroWord w < 2 ^ 64
+  nonzeroWord-lt = lt-of-le-of-lt (and-le-l w ((2 ^ 64 - 1) - 1)) h
 
-  pub count-word : ones (monomialWord w) ≡ length (monomials (places 64 w))
-  count-word = ones-places 64 v monomialWord-lt ∙ ap length (monomials-word w)
+  pub count-word : ones (nonzeroWord w) ≡ length (monomials (places 64 w))
+  count-word = ones-places 64 v nonzeroWord-lt ∙ ap length (places-nonzeroWord w)
 
   module _ (two : length (monomials (places 64 w)) ≡ 2) where
     many : length (places 64 v) ≡ 2
-    many = ap length (monomials-word w) ∙ two
+    many = ap length (places-nonzeroWord w) ∙ two
 
-    pub pair-positive : 0 < monomialWord w
-    pair-positive = places-positive 64 v 1 monomialWord-lt many
+    pub pair-positive : 0 < nonzeroWord w
+    pair-positive = places-positive 64 v 1 nonzeroWord-lt many
 
-    pub pair-word : monomials (places 64 w) ≡ trailingZeros 64 (monomialWord w) ∷ trailingZeros 64 (bitAnd (monomialWord w) (monomialWord w - 1)) ∷ []
-    pair-word = sym (monomials-word w) ∙ places-two 64 v monomialWord-lt many
+    pub pair-word : monomials (places 64 w) ≡ trailingZeros 64 (nonzeroWord w) ∷ trailingZeros 64 (bitAnd (nonzeroWord w) (nonzeroWord w - 1)) ∷ []
+    pair-word = sym (places-nonzeroWord w) ∙ places-two 64 v nonzeroWord-lt many
 
-  pub family-word : (ltb 0 (singles (places 64 w)) && eqb (monomialWord w) (subsetWord (singles (places 64 w)))) ≡ isFamily (places 64 w)
+  pub family-word : (ltb 0 (singles (places 64 w)) && eqb (nonzeroWord w) (subsetWord (singles (places 64 w)))) ≡ isFamily (places 64 w)
   unfolding isFamily subsetWord
   family-word =
       let u = singles (places 64 w) in
       ap (λ (b : Bool). ltb 0 u && b)
-      (sym (same-places 64 v (family u) monomialWord-lt (ascending-family u) (below-family u (singles-lt w)))
-      ∙ ap (λ (r : List ℕ). same r (family u)) (monomials-word w))
+      (sym (same-places 64 v (family u) nonzeroWord-lt (ascending-family u) (below-family u (singles-lt w)))
+      ∙ ap (λ (r : List ℕ). same r (family u)) (places-nonzeroWord w))
 
   pub stripped-word : (c : ℕ) → 0 < c → places 64 (bitAnd w (supersetWord c) / 2 ^ c) ≡ stripped c (places 64 w)
   unfolding stripped

@@ -20,6 +20,7 @@ ghost use Rattle.mask_words.specs.inner.Degree.{ofDegree};
 ghost use Rattle.mask_words.specs.Lookup.{maskCount, lookupWords};
 ghost use Rattle.form.specs.Masks.{masks};
 
+// Without its lowest bit, `word & !1`, the word has the monomials alone.
 pub struct Form {
     pub word: u64,
 }
@@ -52,8 +53,8 @@ impl Form {
         self.word == 0
     }
 
-    // 1 where a mask is in the form, else 0.
-    fn has(self, mask: usize) -> usize
+    // The coefficient of a mask, 0 or 1.
+    fn coefficient(self, mask: usize) -> usize
         requires { ⌜ mask < maskCount ⌝ }
         ensures { λ r. ⌜ (r ≡ digit (mem mask (masks self))) × (r ≤ 1) ⌝ }
     {
@@ -64,7 +65,7 @@ impl Form {
     pub fn constant(self) -> usize
         ensures { λ r. ⌜ r ≡ digit (monomial.constant (masks self)) ⌝ }
     {
-        self.has(0)
+        self.coefficient(0)
     }
 
     // How many monomials there are.
@@ -89,8 +90,8 @@ impl Form {
     pub fn singles(self) -> usize
         ensures { λ r. ⌜ r ≡ paper.singles (masks self) ⌝ }
     {
-        let low = self.has(1) + self.has(2) * 2 + self.has(4) * 4;
-        let high = self.has(8) * 8 + self.has(16) * 16 + self.has(32) * 32;
+        let low = self.coefficient(1) + self.coefficient(2) * 2 + self.coefficient(4) * 4;
+        let high = self.coefficient(8) * 8 + self.coefficient(16) * 16 + self.coefficient(32) * 32;
         low + high
     }
 

@@ -16,12 +16,12 @@ pub fn setting_count(flags: usize) -> usize
     1 << flags
 }
 
-// How many words the coefficients of that many flags take.
+// How many words the coefficients of that many flags take: 2^n/64, rounded up.
 pub fn word_count(flags: usize) -> usize
     requires { ⌜ flags ≤ formFlags ⌝ }
     ensures { λ r. ⌜ r ≡ wordCount flags ⌝ }
 {
-    word_of(setting_count(flags) + 63)
+    word_index(setting_count(flags) + 63)
 }
 
 // Whether a coefficient at 2 ^ flags or above is 1 in the words of that many flags. Only with fewer than six flags is there room for one.
@@ -48,7 +48,7 @@ pub fn get(words: &[u64], m: usize) -> u64
     requires { ⌜ m / 64 < length (now words) ⌝ }
     ensures { λ r. ⌜ r ≡ digit (packed (now (words .entry)) m) ⌝ }
 {
-    (words[word_of(m)] >> bit_of(m)) & 1
+    (words[word_index(m)] >> bit_index(m)) & 1
 }
 
 // Coefficient m becomes 1.
@@ -56,19 +56,19 @@ pub fn set(words: &mut [u64], m: usize)
     requires { ⌜ m / 64 < length (now words) ⌝ }
     ensures { λ _. ⌜ Raised (now (words .entry)) m (now (words .exit)) ⌝ }
 {
-    let i = word_of(m);
-    words[i] = words[i] | (1 << bit_of(m));
+    let i = word_index(m);
+    words[i] = words[i] | (1 << bit_index(m));
 }
 
-// Which word holds coefficient m: "a coefficient's place comes from its number by 64", here without dividing.
-fn word_of(m: usize) -> usize
+// Which word holds coefficient m. "a coefficient's place comes from its number by 64", and the code "shall hold no division and no remainder".
+fn word_index(m: usize) -> usize
     ensures { λ r. ⌜ r ≡ m / 64 ⌝ }
 {
     m >> 6
 }
 
-// At which bit of that word it stands.
-fn bit_of(m: usize) -> usize
+// Which bit of that word it is.
+fn bit_index(m: usize) -> usize
     ensures { λ r. ⌜ r ≡ m % 64 ⌝ }
 {
     m & 63

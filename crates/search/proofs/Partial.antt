@@ -1,6 +1,7 @@
 -- The partial OR on a form's word: which masks may be chosen, by tests of words, and the choice one mask after the other.
--- It rests on the laws of words as sets of places (bits, Sets), on the words of nonempty subsets (mask_words, Entries), on the saving by
--- flags (Saving), on a mask's nonempty subsets and on a form's monomials (laws, Family and Covered).
+-- It rests on the laws of words as sets of places (bits, Sets), on the words of nonempty subsets (mask_words, Entries), on the word of the monomials
+-- (form, WordOperations), on the saving by flags and the choice (Saving, Chosen), on a mask's nonempty subsets and on a form's monomials (laws,
+-- Family and Covered).
 --   partial-few, partial-missing, partial-whole == a mask fails: it has fewer than two flags, a subset is missing, or its subsets are all monomials
 --   partial-true                                == a mask passes
 --   partial-within                              == its flags are single-flag monomials
@@ -36,7 +37,7 @@ use Rattle.laws.proofs.form.Family.{mem-family}
 use Rattle.search.specs.Inner.{chosen}
 use Rattle.mask_words.specs.Lookup.{subsetWord}
 use Rattle.search.proofs.Chosen.{greatest-chosen}
-use Rattle.form.proofs.WordOperations.{monomialWord, monomials-word}
+use Rattle.form.proofs.WordOperations.{nonzeroWord, places-nonzeroWord}
 use Rattle.mask_words.proofs.Entries.{bit-subsets, places-subsets, subsets-lt}
 use Rattle.search.proofs.Saving.{greatest-saving}
 
@@ -125,7 +126,7 @@ module _ (w : ℕ) where
 
   -- the word of the monomials, and that of the nonempty sets of single flags
   abbrev v : ℕ
-  v = monomialWord w
+  v = nonzeroWord w
 
   abbrev s : ℕ
   s = subsetWord (singles l)
@@ -138,7 +139,7 @@ module _ (w : ℕ) where
 
   candidates : keep p (places 64 (bitAnd v s)) ≡ keep p (monomials l)
   candidates =
-      ap (keep p) (places-and 64 v s ∙ ap (keep (bit s)) (monomials-word w)) ∙ keep-keep p (bit s) (monomials l)
+      ap (keep p) (places-and 64 v s ∙ ap (keep (bit s)) (places-nonzeroWord w)) ∙ keep-keep p (bit s) (monomials l)
       ∙ keep-ext (λ m. bit s m && p m) p (monomials l)
       (λ m e. and-implied (bit s m) (p m)
       (λ t. bit-subsets (singles l) m ∙ mem-family m (singles l) ∙ and-intro _ _ (positive m e) (partial-within l m t)))
@@ -153,6 +154,6 @@ module _ (w : ℕ) where
   unfolding bestFamily
   bestFamily-chosen =
       ap (λ (q : ℕ → Bool). foldl (chosen q) 0 (places 64 (bitAnd v s)))
-      (fun-ext (λ m. ap (λ (r : List ℕ). isPartial r m) (monomials-word w) ∙ partial-monomials l m))
+      (fun-ext (λ m. ap (λ (r : List ℕ). isPartial r m) (places-nonzeroWord w) ∙ partial-monomials l m))
       ∙ sym (greatest-chosen p (places 64 (bitAnd v s))) ∙ ap (greatest ones) candidates
       ∙ sym (greatest-saving (keep p (monomials l)) (ascending-keep p (monomials l) (ascending-keep (ltb 0) l (ascending-places 64 w))) worthy)

@@ -1,6 +1,6 @@
 -- The masks that two monomials contain, found flag by flag. A sum is counted only as none, one, or more, so two words carry it. After six flags it is
 -- over all masks that contain the given one: by one computed test for a word of a single mask, and for others because they are sums of such words.
--- It rests on the laws of bits, masks, places and sums (bits).
+-- It rests on the laws of bits, masks, places and sums (bits) and on the word of the monomials (form, WordOperations).
 --   reached-start, reached-step  == the word itself, before any flag; one flag more
 --   reach-six                    == after six flags, how many masks of a word contain a mask
 --   shared-word                  == the nonzero masks that two monomials contain
@@ -28,7 +28,7 @@ use Rattle.bits.proofs.Places.{ones-and, length-total}
 use Rattle.bits.proofs.Sum.{plus-laws, sum-op, sum-unit, sum-ext-mem}
 use Rattle.bits.proofs.Word.{below-places}
 use Rattle.rules.specs.Cleanup.{covered}
-use Rattle.form.proofs.WordOperations.{monomialWord, monomials-word, monomialWord-lt}
+use Rattle.form.proofs.WordOperations.{nonzeroWord, places-nonzeroWord, nonzeroWord-lt}
 use Rattle.search.specs.Inner.{reach, Reached}
 
 abbrev more : Bool → ℕ → ℕ
@@ -162,18 +162,19 @@ module _ (w : ℕ) (h : w < 2 ^ 64) where
 
 -- ---- the search
 
-module _ (w one two : ℕ) (h : w < 2 ^ 64) (r : Reached (monomialWord w) 6 one two) where
+module _ (w one two : ℕ) (h : w < 2 ^ 64) (r : Reached (nonzeroWord w) 6 one two) where
   shared : (c : ℕ) → mem c (from 1 63) ≡ true → (bit two c && ltb 0 c) ≡ leb 2 (length (covered c (places 64 w)))
   unfolding covered
   shared c e =
       let u = sym (mem-from 1 63 c) ∙ e in
       let k = ltb-true c 64 (and-true-r (leb 1 c) (ltb c 64) u) in
       ap (λ (b : Bool). bit two c && b) (and-true-l (leb 1 c) (ltb c 64) u) ∙ and-true (bit two c) ∙ r .twice c
-      ∙ ap (ltb 1) (reach-six (monomialWord w) (monomialWord-lt w h) c k ∙ ap (λ (l : List ℕ). length (keep (λ m. within c m) l)) (monomials-word w))
+      ∙ ap (ltb 1)
+      (reach-six (nonzeroWord w) (nonzeroWord-lt w h) c k ∙ ap (λ (l : List ℕ). length (keep (λ m. within c m) l)) (places-nonzeroWord w))
 
-  pub shared-word : places 64 (monomialWord two) ≡ keep (λ c. leb 2 (length (covered c (places 64 w)))) (from 1 63)
+  pub shared-word : places 64 (nonzeroWord two) ≡ keep (λ c. leb 2 (length (covered c (places 64 w)))) (from 1 63)
   unfolding places from
   shared-word =
-      monomials-word two ∙ keep-keep (λ i. ltb 0 i) (bit two) (upto 64)
+      places-nonzeroWord two ∙ keep-keep (λ i. ltb 0 i) (bit two) (upto 64)
       ∙ keep-false (λ i. bit two i && ltb 0 i) 0 (from 1 63) (and-false (bit two 0))
       ∙ keep-ext (λ i. bit two i && ltb 0 i) (λ c. leb 2 (length (covered c (places 64 w)))) (from 1 63) shared

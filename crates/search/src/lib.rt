@@ -1,5 +1,5 @@
 // The searches of the cleanup that need no cleaned form: the partial OR's best family, the masks that two monomials contain, and whether a mask is a
-// candidate cube. It rests on `form`.
+// candidate cube. It rests on `form` and `mask_words`.
 use form::Form;
 use mask_words::Lookup;
 ghost use mathlib.Core.Path.{_≡_};

@@ -1,5 +1,5 @@
 // A rule's table of at most six flags by value: one word, whose bit s is the table's bit at setting s. Whoever asks a table these questions need not
-// look at its word. It rests on `form`, on `anf_transform` and on `packed_anf`.
+// look at its word. It rests on `form`, `mask_words`, `anf_transform` and `packed_anf`.
 use form::Form;
 ghost use mathlib.Core.List.{map};
 ghost use mathlib.Core.Path.{_≡_};
@@ -96,6 +96,7 @@ fn low_settings(flags: usize, word: u64) -> u64
     word
 }
 
+// Bit 0 of a byte, as 0 or 1.
 fn low_bit(byte: u8) -> u64
     ensures { λ r. ⌜ r ≡ byte % 2 ⌝ }
 {

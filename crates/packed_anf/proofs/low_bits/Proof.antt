@@ -34,7 +34,7 @@ returns c =
     let s = c .setting-count in
     let first = c .before .args .first in
     ap (λ (x : ℕ). bitAnd first (x - 1)) (one-shl 64 (s .result) (omega (arith, place c)))
-    ∙ shift-mask w64 first (s .result) .1
+    ∙ shift-mask w64 first (s .result) .remainder
     ∙ ap (λ (k : ℕ). first % 2 ^ k) (s .ensures)
 
 pub low-bits-spec : {M : Type 1} → statement M

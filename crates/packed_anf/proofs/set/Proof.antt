@@ -11,8 +11,8 @@ use Rattle.packed_anf.proofs.Raised.{raised}
 use Rattle.packed_anf.proofs.set.Statement.{statement}
 use Rattle.packed_anf.proofs.set.Tie as tie
 
-word-of-requires : tie.Need-word-of-requires
-word-of-requires c κs = search needs
+word-index-requires : tie.Need-word-index-requires
+word-index-requires c κs = search needs
 
 mul-words : tie.Need-mul-words
 mul-words c = search needs
@@ -20,8 +20,8 @@ mul-words c = search needs
 slice-read-words : tie.Need-slice-read-words
 slice-read-words c = search needs
 
-bit-of-requires : tie.Need-bit-of-requires
-bit-of-requires c κs = search needs
+bit-index-requires : tie.Need-bit-index-requires
+bit-index-requires c κs = search needs
 
 shl-words : tie.Need-shl-words
 shl-words c = search needs
@@ -42,7 +42,7 @@ returns c =
     let ws = i .before .before .args .words .now in
     subst (Raised ws m)
     (sym
-    (ap₂ (λ (j k : ℕ). set ws j (bitOr (getD ws j 0) (1 * 2 ^ k % 2 ^ 64))) (i .word-of .ensures) (c .bit-of .ensures)
+    (ap₂ (λ (j k : ℕ). set ws j (bitOr (getD ws j 0) (1 * 2 ^ k % 2 ^ 64))) (i .word-index .ensures) (c .bit-index .ensures)
     ∙ ap (λ (x : ℕ). set ws (m / 64) (bitOr (getD ws (m / 64) 0) x)) (one-shl 64 (m % 64) (omega arith))))
     (raised ws m (i .before .before .pre))
 
@@ -50,10 +50,10 @@ pub set-spec : {M : Type 1} → statement M
 set-spec =
     tie.close
     (tie.spec
-    word-of-requires
+    word-index-requires
     mul-words
     slice-read-words
-    bit-of-requires
+    bit-index-requires
     shl-words
     mul-words-2
     slice-write-words

@@ -1,4 +1,4 @@
--- `packed_anf::word_count` meets its contract, which says the same of 2 ^ flags: at most 16 flags leave room for the sum.
+-- `packed_anf::word_count` meets its contract, which rounds 2 ^ flags / 64 up: at most 16 flags leave room for the sum.
 use native.Mathlib.Omega.{arith}
 use borrow.Author.Needs.{needs}
 use lib.Pow.{pow-mono}
@@ -10,17 +10,17 @@ use Rattle.packed_anf.proofs.word_count.Tie as tie
 setting-count-requires : tie.Need-setting-count-requires
 setting-count-requires c κs = search needs
 
-add-word-of : tie.Need-add-word-of
-add-word-of c =
+add-word-index : tie.Need-add-word-index
+add-word-index c =
     let h : 2 ^ c .before .args .flags ≤ 2 ^ 16 = pow-mono (c .before .pre) in
     omega arith
 
-word-of-requires : tie.Need-word-of-requires
-word-of-requires c κs = search needs
+word-index-requires : tie.Need-word-index-requires
+word-index-requires c κs = search needs
 
 returns : tie.Need-returns
 unfolding wordCount
 returns c = omega arith
 
 pub word-count-spec : {M : Type 1} → statement M
-word-count-spec = tie.close (tie.spec setting-count-requires add-word-of word-of-requires returns)
+word-count-spec = tie.close (tie.spec setting-count-requires add-word-index word-index-requires returns)

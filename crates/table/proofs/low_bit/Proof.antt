@@ -6,10 +6,10 @@ use Rattle.table.proofs.low_bit.Statement.{statement}
 use Rattle.table.proofs.low_bit.Tie as tie
 
 cast-result : tie.Need-cast-result
-cast-result c = omega (arith, shift-mask w8 (c .args .byte) 1 .1)
+cast-result c = omega (arith, shift-mask w8 (c .args .byte) 1 .remainder)
 
 returns : tie.Need-returns
-returns c = omega (arith, shift-mask w8 (c .args .byte) 1 .1)
+returns c = omega (arith, shift-mask w8 (c .args .byte) 1 .remainder)
 
 pub low-bit-spec : {M : Type 1} → statement M
 low-bit-spec = tie.close (tie.spec cast-result returns)

@@ -55,7 +55,7 @@ loop-again c =
     let s = c .before .before .before in
     let l = c .before .before .loop in
     let x = getD (s .args .table .now) (s .args .base + l .j) 0 in
-    let r : bitAnd x 1 ≡ x % 2 = shift-mask w64 x 1 .1 in
+    let r : bitAnd x 1 ≡ x % 2 = shift-mask w64 x 1 .remainder in
     let d : bitAnd x 1 ≡ digit (low s (l .j)) = omega (arith, r, digit-bit x 0) in
     let e : bitAnd x 1 * 2 ^ l .j % 2 ^ 64 ≡ bitAnd x 1 * 2 ^ l .j = shl-exact 1 (l .j) 64 (omega (arith, r)) (omega arith) in (
       search needs,

@@ -1,16 +1,14 @@
 -- `anf_transform::pack::unpack_word` meets its contract. The loop's invariant: the first j bits are stored. The measure is what is left of the count.
 use mathlib.Core.List.{List, [], _∷_, map}
 use mathlib.Core.Path.{_≡_, sym, ap, ap₂, _∙_}
-use Prim.Native.Nat.{ℕ, _+_, _-_, _/_, _^_, _≤_}
+use Prim.Native.Nat.{ℕ, _+_, _-_, _≤_}
 use native.Mathlib.Omega.{arith}
 use borrow.Author.Needs.{needs}
 use lib.ListN.{length, set, length-set}
 use lib.Seq.{sets}
-use mir.Syntax.{w64}
 use Rattle.bits.specs.Bit.{bit, digit}
 use Rattle.bits.specs.Range.{from, upto}
-use Rattle.bits.proofs.Bit.{digit-bit}
-use Rattle.bits.proofs.Quotient.{shift-mask}
+use Rattle.bits.proofs.Quotient.{shift-digit}
 use Rattle.bits.proofs.Tabulated.{length-map-upto}
 use Rattle.bits.proofs.Stores.{sets-append}
 use Rattle.bits.proofs.Tabulated.{map-upto-more}
@@ -54,8 +52,7 @@ loop-again c =
     let n : a .base + l .j ≡ a .base + length vs = omega (arith, length-map-upto (l .j) g) in (
       search needs,
       length-set (l .out) (a .base + l .j) _ ∙ l .inv .1,
-      ap₂ (λ (o : List ℕ) (v : ℕ). set o (a .base + l .j) v) (l .inv .2)
-          (shift-mask w64 (a .word / 2 ^ l .j) 1 .1 ∙ sym (digit-bit (a .word) (l .j)))
+      ap₂ (λ (o : List ℕ) (v : ℕ). set o (a .base + l .j) v) (l .inv .2) (shift-digit (a .word) (l .j))
           ∙ ap (λ (k : ℕ). set (sets (a .out .now) (a .base) vs) k (g (l .j))) n
           ∙ sets-append vs (g (l .j) ∷ []) (a .out .now) (a .base)
           ∙ ap (sets (a .out .now) (a .base)) (sym (map-upto-more g (l .j))),

@@ -3,11 +3,11 @@ use borrow.Author.Needs.{needs}
 use Rattle.form.proofs.Form.constant.Statement.{statement}
 use Rattle.form.proofs.Form.constant.Tie as tie
 
-has-requires : tie.Need-has-requires
-has-requires c κs = search needs
+coefficient-requires : tie.Need-coefficient-requires
+coefficient-requires c κs = search needs
 
 returns : tie.Need-returns
-returns c = c .has .ensures .0
+returns c = c .coefficient .ensures .0
 
 pub constant-spec : {M : Type 1} → statement M
-constant-spec = tie.close (tie.spec has-requires returns)
+constant-spec = tie.close (tie.spec coefficient-requires returns)

@@ -1,4 +1,4 @@
--- `form::Form::flags` meets its contract: the mask is made of six tests, each whether a flag occurs.
+-- `form::Form::flags` meets its contract: the mask is made of six digits, each whether a flag occurs.
 use native.Mathlib.Omega.{arith}
 use borrow.Author.Needs.{needs}
 use Rattle.form.proofs.Flags.{flags-made}
@@ -8,6 +8,7 @@ use Rattle.form.proofs.Form.flags.Tie as tie
 returns : tie.Need-returns
 returns c = omega (arith, flags-made (c .before .before .before .before .before .before .args .self .word))
 
+-- for each flag its call, its product and its sum, in the order of the code
 pub flags-spec : {M : Type 1} → statement M
 flags-spec =
     tie.close

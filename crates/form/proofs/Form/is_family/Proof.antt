@@ -7,7 +7,7 @@ use borrow.Author.Needs.{needs}
 use lib.Dec.{eqb, ltb}
 use Rattle.mask_words.specs.Lookup.{subsetWord}
 use Rattle.form.proofs.Flags.{singles-lt}
-use Rattle.form.proofs.WordOperations.{monomialWord, family-word}
+use Rattle.form.proofs.WordOperations.{nonzeroWord, family-word}
 use Rattle.form.proofs.Form.is_family.Statement.{statement}
 use Rattle.form.proofs.Form.is_family.Tie as tie
 
@@ -25,8 +25,8 @@ returns : tie.Need-returns
 returns c =
     let s = c .before .before in
     let w = s .before .args .self .word in
-    ap (λ (x : ℕ). ltb 0 (s .singles .result) && eqb (monomialWord w) x) (c .subsets .ensures)
-    ∙ ap (λ (u : ℕ). ltb 0 u && eqb (monomialWord w) (subsetWord u)) (s .singles .ensures) ∙ family-word w (omega arith)
+    ap (λ (x : ℕ). ltb 0 (s .singles .result) && eqb (nonzeroWord w) x) (c .subsets .ensures)
+    ∙ ap (λ (u : ℕ). ltb 0 u && eqb (nonzeroWord w) (subsetWord u)) (s .singles .ensures) ∙ family-word w (omega arith)
 
 pub is-family-spec : {M : Type 1} → statement M
 is-family-spec = tie.close (tie.spec singles-requires subsets-requires returns)

@@ -1,4 +1,4 @@
--- `form::Form::singles` meets its contract: the mask is made of six tests, each whether a single flag is in the form.
+-- `form::Form::singles` meets its contract: the mask is made of six digits, each whether a single flag is in the form.
 use native.Mathlib.Omega.{arith}
 use borrow.Author.Needs.{needs}
 use Rattle.form.proofs.Flags.{singles-made}
@@ -8,6 +8,7 @@ use Rattle.form.proofs.Form.singles.Tie as tie
 returns : tie.Need-returns
 returns c = omega (arith, singles-made (c .before .before .before .before .before .before .args .self .word))
 
+-- for each flag its call, its product and its sum, in the order of the code
 pub singles-spec : {M : Type 1} → statement M
 singles-spec =
     tie.close
