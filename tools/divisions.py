@@ -1,8 +1,8 @@
 """Names each division and each remainder in the code that holds coefficients in words, and in all that this code calls; the status is 1 where there
 is one. Run at the top of the repository: python3 tools/divisions.py.
 
-Document 02, request 2: "the code that gets or sets a coefficient, with all it calls, shall hold no division and no remainder". Comments and contracts
-may have `/` and `%`: they say what is answered, not how.
+Document 02, request 2: "the code that gets or sets a coefficient, with all it calls, shall hold no division and no remainder". Comments (of
+`//`) and contracts may have `/` and `%`: they say what is answered, not how.
 """
 import re
 import sys
@@ -13,7 +13,7 @@ from layers import ROOT, listed, used
 # (anf_form), and look at the bits of a form's word (form, search). What their code calls is added.
 HOLDERS = ("packed_anf", "anf_transform", "anf_form", "table", "form", "search")
 
-ASIDE = re.compile(r'"(?:[^"\\\n]|\\.)*"' + r"|b?'(?:[^'\\\n]|\\[^'\n]+)'" + r"|//[^\n]*|/\*.*?\*/", re.S)
+ASIDE = re.compile(r'"(?:[^"\\\n]|\\.)*"' + r"|b?'(?:[^'\\\n]|\\[^'\n]+)'" + r"|//[^\n]*")
 GHOST = re.compile(r"\bghost\s+use\b[^;]*;")
 CONTRACT = re.compile(r"\b(?:requires|ensures)\b[^{;]*\{")
 # Lines 9 and 10 divide; in all others `/` and `%` stand aside.
@@ -69,6 +69,8 @@ def main():
     if divisions(SAMPLE) != [9, 10]:
         sys.exit(f"tools/divisions.py finds lines {divisions(SAMPLE)} of its sample, and not 9 and 10")
     crates, _ = listed()
+    if unknown := set(HOLDERS) - set(crates):
+        sys.exit(f"tools/divisions.py names crates that crates.txt does not have: {', '.join(sorted(unknown))}")
     found = [
         f"{path}:{number}: shift or mask here, for request 2: {path.read_text().splitlines()[number - 1].strip()}"
         for crate in called(crates)

@@ -34,7 +34,7 @@ def used(crate, crates):
         text = COMMENT.sub("", path.read_text())
         cited |= set(re.findall(r"Rattle·(\w+)", text))
         if path.suffix == ".rt":
-            code |= {name for name in crates if re.search(rf"(?<![\w:]){name}::", re.sub(r"ghost use[^;]*;", "", text))}
+            code |= {name for name in crates if re.search(rf"(?<![\w:]){name}(::|\s+as\s)", re.sub(r"ghost use[^;]*;", "", text))}
     return code - {crate}, (cited | code) - {crate}
 
 

@@ -23,7 +23,7 @@ pub fn words(flags: usize) -> usize
     if flags <= 6 {
         return 1;
     }
-    entries(flags) / 64
+    entries(flags) >> 6
 }
 
 // 8 bits to a byte, rounded up.
@@ -33,5 +33,5 @@ pub fn bytes(flags: usize) -> usize
     if flags <= 3 {
         return 1;
     }
-    entries(flags) / 8
+    entries(flags) >> 3
 }
