@@ -8,7 +8,7 @@ TABLE = 0111
 RULE = VA0 VA1 OR
 sources = crates.txt $(shell find crates -name '*.rt' -o -name '*.antt')
 have_rt = command -v rt >/dev/null || { echo "needs rt, the Rattle toolchain's command, on the PATH"; exit 1; }
-no_python = echo "python3 is not installed: what \`make $@' looks at is not looked at" >&2
+no_python = echo "python3 is not installed: \`make $@' leaves out what needs it" >&2
 have_cc = command -v cc >/dev/null || { echo "needs cc, a C compiler, on the PATH"; exit 1; }
 cc = cc -std=c99 -Wall -Wextra -Wpedantic -Werror -Iinclude
 # Runs a C example, under valgrind where that is installed, and compares what it writes with its .expected file.

@@ -1,16 +1,16 @@
 """Names each division and each remainder in the code that holds coefficients in words, and in all that this code calls; the status is 1 where there
 is one. Run at the top of the repository: python3 tools/divisions.py.
 
-Document 02, request 2: "the code that gets or sets a coefficient, with all it calls, shall hold no division and no remainder". Comments (of
-`//`) and contracts may have `/` and `%`: they say what is answered, not how.
+Document 02, request 2: "the code that gets or sets a coefficient, with all it calls, shall hold no division and no remainder". Comments, which
+start with `//`, contracts, ghost imports and literals of text may have `/` and `%`.
 """
 import re
 import sys
 
 from layers import ROOT, listed, used
 
-# The crates that get and set coefficients, count their words and clear stray ones (packed_anf), pack and unpack them (anf_transform, table), list them
-# (anf_form), and look at the bits of a form's word (form, search). What their code calls is added.
+# The crates that get and set coefficients, count their words and clear stray ones (packed_anf), pack and unpack them (anf_transform), list them
+# (anf_form), and look at the bits of a form's or a table's word (form, search, table). What their code calls is added.
 HOLDERS = ("packed_anf", "anf_transform", "anf_form", "table", "form", "search")
 
 ASIDE = re.compile(r'"(?:[^"\\\n]|\\.)*"' + r"|b?'(?:[^'\\\n]|\\[^'\n]+)'" + r"|//[^\n]*")

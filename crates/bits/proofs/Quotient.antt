@@ -1,7 +1,7 @@
 -- Quotient and remainder by a power of two without dividing. The language defines a shift to the right by k as the quotient by 2 ^ k; a mask of k
 -- ones gives the remainder. It rests on the language's operations (mir.Val), on the library's law of masks (lib.Bits) and on the laws of bits (Bit).
 --   ShiftMask w x k  == x >> k is the quotient and x & (2 ^ k - 1) the remainder, for operations of width w
---   shift-mask       == they are
+--   shift-mask       == so it is at every width
 --   shift-digit      == bit i of a number, by a shift and a mask
 use mathlib.Core.Path.{_≡_, refl, sym, _∙_}
 use Prim.Native.Nat.{ℕ, _-_, _/_, _%_, _^_}

@@ -60,7 +60,8 @@ pub fn set(words: &mut [u64], m: usize)
     words[i] = words[i] | (1 << bit_index(m));
 }
 
-// Which word holds coefficient m. "a coefficient's place comes from its number by 64", and the code "shall hold no division and no remainder".
+// Which word holds coefficient m. Document 02, request 2: "a coefficient's place comes from its number by 64", and the code that gets or sets it
+// "shall hold no division and no remainder".
 fn word_index(m: usize) -> usize
     ensures { λ r. ⌜ r ≡ m / 64 ⌝ }
 {
