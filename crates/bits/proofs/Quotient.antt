@@ -6,9 +6,10 @@
 use mathlib.Core.Path.{_≡_, refl, sym, _∙_}
 use Prim.Native.Nat.{ℕ, _-_, _/_, _%_, _^_}
 use mir.Syntax as op
-use mir.Syntax.{Width, w8, w16, w32, w64, w128, unsigned, shr}
-use mir.Val.{Val, vint, asInt, op2Val}
+use mir.Syntax.{Width, w64, unsigned, shr}
+use mir.Val.{Val, vint, bytes, asInt, op2Val}
 use lib.Bits.{bitAnd, and-mask}
+use borrow.Author.Tests.{eq-eqb}
 use Rattle.bits.specs.Bit.{bit, digit}
 use Rattle.bits.proofs.Bit.{digit-bit}
 
@@ -21,11 +22,9 @@ pub record ShiftMask (w : Width) (x k : ℕ) : Type 0 where
   pub remainder : held (op2Val op.bitAnd (vint w x) (vint w (2 ^ k - 1))) ≡ x % 2 ^ k
 
 pub shift-mask : (w : Width) (x k : ℕ) → ShiftMask w x k
-shift-mask w8 x k = record { quotient = refl; remainder = and-mask x k }
-shift-mask w16 x k = record { quotient = refl; remainder = and-mask x k }
-shift-mask w32 x k = record { quotient = refl; remainder = and-mask x k }
-shift-mask w64 x k = record { quotient = refl; remainder = and-mask x k }
-shift-mask w128 x k = record { quotient = refl; remainder = and-mask x k }
+shift-mask w x k =
+    let same = eq-eqb (bytes w) (bytes w) refl in
+    record { quotient = rw same refl; remainder = rw same (and-mask x k) }
 
 pub shift-digit : (w i : ℕ) → bitAnd (w / 2 ^ i) 1 ≡ digit (bit w i)
 shift-digit w i = shift-mask w64 (w / 2 ^ i) 1 .remainder ∙ sym (digit-bit w i)

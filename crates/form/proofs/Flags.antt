@@ -1,6 +1,7 @@
 -- The flags of a form of six flags, read off its word: those that occur, and those that occur as single-flag monomials.
 -- It rests on the flags' words (mask_words, Entries) and on the laws of words and of unions (bits, Sets and Union).
 --   made k d                 == the number whose digits below k are d
+--   made-six                 == six digits put together
 --   occurs-word              == whether a flag occurs
 --   flags-made, singles-made == the flags that occur, and the single flags
 --   singles-lt, singles-below == the single flags are flags below six; so for a form
@@ -31,6 +32,10 @@ use Rattle.form.specs.declared.Form.{Form}
 abbrev pub made : ℕ → (ℕ → ℕ) → ℕ
 made zero d = 0
 made (suc k) d = d k * 2 ^ k + made k d
+
+pub made-six : (d : ℕ → ℕ) {a b c e f g : ℕ} → a ≡ d 0 → b ≡ d 1 → c ≡ d 2 → e ≡ d 3 → f ≡ d 4 → g ≡ d 5
+    → a + 2 * b + 4 * c + 8 * e + 16 * f + 32 * g ≡ made 6 d
+made-six d h0 h1 h2 h3 h4 h5 = omega arith
 
 made-mod : (k u : ℕ) (d : ℕ → ℕ) → ((i : ℕ) → i < k → digit (bit u i) ≡ d i) → u % 2 ^ k ≡ made k d
 made-mod zero u d e = omega arith

@@ -4,7 +4,7 @@ use mask_words::Lookup;
 ghost use mathlib.Core.Bool.{not};
 ghost use mathlib.Core.List.{[], _∷_, map};
 ghost use mathlib.Core.Path.{_≡_};
-ghost use Prim.Native.Nat.{_+_, _<_, _≤_};
+ghost use Prim.Native.Nat.{_+_, _*_, _<_, _≤_};
 ghost use lib.Dec.{eqb};
 ghost use lib.ListN.{length};
 ghost use lib.Seq.{sets};
@@ -90,9 +90,14 @@ impl Form {
     pub fn singles(self) -> usize
         ensures { λ r. ⌜ r ≡ paper.singles (masks self) ⌝ }
     {
-        let low = self.coefficient(1) + self.coefficient(2) * 2 + self.coefficient(4) * 4;
-        let high = self.coefficient(8) * 8 + self.coefficient(16) * 16 + self.coefficient(32) * 32;
-        low + high
+        mask_of(
+            self.coefficient(1),
+            self.coefficient(2),
+            self.coefficient(4),
+            self.coefficient(8),
+            self.coefficient(16),
+            self.coefficient(32),
+        )
     }
 
     // 1 where a flag occurs, else 0.
@@ -111,9 +116,14 @@ impl Form {
     pub fn flags(self) -> usize
         ensures { λ r. ⌜ r ≡ union (masks self) ⌝ }
     {
-        let low = self.occurs(0) + self.occurs(1) * 2 + self.occurs(2) * 4;
-        let high = self.occurs(3) * 8 + self.occurs(4) * 16 + self.occurs(5) * 32;
-        low + high
+        mask_of(
+            self.occurs(0),
+            self.occurs(1),
+            self.occurs(2),
+            self.occurs(3),
+            self.occurs(4),
+            self.occurs(5),
+        )
     }
 
     // The total number of flags in the masks. A mask's count of ones has three binary digits: the masks that have the digit are counted for each of
@@ -203,4 +213,12 @@ impl Form {
         let word = self.word & !mask_words::subsets(mask, lookup);
         Form { word }
     }
+}
+
+// The mask of six flags with these digits, 0 or 1 each, flag 0's first.
+fn mask_of(a: usize, b: usize, c: usize, d: usize, e: usize, f: usize) -> usize
+    requires { ⌜ (a ≤ 1) × (b ≤ 1) × (c ≤ 1) × (d ≤ 1) × (e ≤ 1) × (f ≤ 1) ⌝ }
+    ensures { λ r. ⌜ r ≡ a + 2 * b + 4 * c + 8 * d + 16 * e + 32 * f ⌝ }
+{
+    a + 2 * b + 4 * c + 8 * d + 16 * e + 32 * f
 }
