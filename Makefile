@@ -8,7 +8,7 @@ TABLE = 0111
 RULE = VA0 VA1 OR
 sources = crates.txt $(shell find crates -name '*.rt' -o -name '*.antt')
 have_rt = command -v rt >/dev/null || { echo "needs rt, the Rattle toolchain's command, on the PATH"; exit 1; }
-no_python = echo "python3 is not installed: \`make $@' leaves out what needs it" >&2
+have_python = command -v python3 >/dev/null || { echo "needs python3 on the PATH"; exit 1; }
 have_cc = command -v cc >/dev/null || { echo "needs cc, a C compiler, on the PATH"; exit 1; }
 cc = cc -std=c99 -Wall -Wextra -Wpedantic -Werror -Iinclude
 # Runs a C example, under valgrind where that is installed, and compares what it writes with its .expected file.
@@ -26,10 +26,12 @@ test: toolchain pages divisions ## prove everything from nothing, try the must-f
 
 pages: ## see that version, table of crates, citations and line lengths are right
 	@grep -q "^## $$(cat VERSION)" CHANGELOG.md || { echo "CHANGELOG.md does not tell of version $$(cat VERSION)"; exit 1; }
-	@if command -v python3 >/dev/null; then python3 tools/layers.py --check && python3 tools/citations.py && python3 tools/lengths.py; else $(no_python); fi
+	@$(have_python)
+	@python3 tools/layers.py --check && python3 tools/citations.py && python3 tools/lengths.py
 
 divisions: ## see that the code that gets or sets coefficients, with all it calls, does not divide
-	@if command -v python3 >/dev/null; then python3 -B tools/divisions.py; else $(no_python); fi
+	@$(have_python)
+	@python3 -B tools/divisions.py
 
 toolchain: ## see that the Rattle toolchain is there, and say where it is another than the one that this was proved with
 	@$(have_rt)
@@ -64,8 +66,9 @@ python: toolchain target/staticlib/libguide_rules.a ## link build/libguide_rules
 	@mkdir -p build
 	@cc -shared -Wl,--whole-archive target/staticlib/libguide_rules.a -Wl,--no-whole-archive -o build/libguide_rules.so
 
-python_test: python ## run the Python module's tests, where python3 is installed
-	@if command -v python3 >/dev/null; then python3 -B -m unittest discover -s python; fi
+python_test: python ## run the Python module's tests
+	@$(have_python)
+	@python3 -B -m unittest discover -s python
 
 bench: toolchain ## measure beside the original Rust and write docs/BENCHMARK.md: RUST=folder of its sources
 	@bench/bench.sh "$(RUST)"
@@ -74,4 +77,5 @@ compare: ## make the recorded answers anew from the original Rust and compare: R
 	@oracle/compare.sh "$(RUST)"
 
 unused: ## list imports that their file does not use, and laws and definitions that nothing uses
+	@$(have_python)
 	@python3 tools/unused.py

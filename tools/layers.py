@@ -34,7 +34,9 @@ def used(crate, crates):
         text = COMMENT.sub("", path.read_text())
         cited |= set(re.findall(r"Rattle·(\w+)", text))
         if path.suffix == ".rt":
-            code |= {name for name in crates if re.search(rf"(?<![\w:]){name}(::|\s+as\s)", re.sub(r"ghost use[^;]*;", "", text))}
+            text = re.sub(r"ghost use[^;]*;", "", text)
+            # a crate is called by its path, or imported under another name
+            code |= {name for name in crates if re.search(rf"(?<![\w:]){name}::|\buse\s+{name}\s+as\s", text)}
     return code - {crate}, (cited | code) - {crate}
 
 

@@ -26,5 +26,6 @@ shift-mask w x k =
     let same = eq-eqb (bytes w) (bytes w) refl in
     record { quotient = rw same refl; remainder = rw same (and-mask x k) }
 
-pub shift-digit : (w i : ℕ) → bitAnd (w / 2 ^ i) 1 ≡ digit (bit w i)
-shift-digit w i = shift-mask w64 (w / 2 ^ i) 1 .remainder ∙ sym (digit-bit w i)
+-- any width serves, since what is held is the same number at each
+pub shift-digit : (x i : ℕ) → bitAnd (x / 2 ^ i) 1 ≡ digit (bit x i)
+shift-digit x i = shift-mask w64 (x / 2 ^ i) 1 .remainder ∙ sym (digit-bit x i)

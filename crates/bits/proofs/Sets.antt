@@ -1,7 +1,11 @@
 -- Words as sets of places: what an operation on words does to the list of a word's places, and tests of words as tests of their places.
 -- It rests on the laws of a word's places (Word, Places), of bits and masks (Bit, Mask) and of choices from a list (Range, Ascending).
 --   mem-bit                                    == a bit is membership
---   places-and-not, places-nonzero             == the places of w & !v, and of w & !1
+--   places-and-not                             == the places of w & !v
+--   withoutZero k w                            == w & !1, the word without its place 0
+--   places-withoutZero                         == its places are those of w but 0
+--   withoutZero-even, withoutZero-lt           == it is even, and of k bits where w is
+--   places-even                                == an even word has no place 0
 --   places-shr                                 == the places of w >> c, where w has none below c
 --   places-none, places-positive               == 0 has no place, and nothing else has none
 --   places-two                                 == the places of a word that has two
@@ -9,10 +13,10 @@
 use mathlib.Core.Bool.{true, not, false≢true}
 use mathlib.Core.List.{List, [], _∷_, map}
 use mathlib.Core.Path.{_≡_, refl, sym, ap, _∙_}
-use Prim.Native.Nat.{ℕ, zero, suc, _+_, _-_, _/_, _^_, _≤_, _<_}
+use Prim.Native.Nat.{ℕ, zero, suc, _+_, _-_, _/_, _%_, _^_, _≤_, _<_}
 use native.Mathlib.Nat.{zero-lt-suc, lt-of-le-of-lt}
 use native.Mathlib.Omega.{arith}
-use lib.Bits.{bitAnd, and-le-l}
+use lib.Bits.{bitAnd, and-le-l, and-mod, and-zero-r}
 use lib.Count.{ones, trailingZeros}
 use lib.Dec.{eqb, ltb}
 use lib.ListN.{length}
@@ -22,9 +26,9 @@ use Rattle.bits.specs.Bit.{bit, within}
 use Rattle.bits.specs.Range.{keep, all, any, mem, same, Ascending, Below}
 use Rattle.bits.specs.Word.{places, word}
 use Rattle.bits.proofs.Truth.{and-intro, and-true-l, and-true-r, bool-ext}
-use Rattle.bits.proofs.Bit.{bit-and, bit-not, bit-shr, bit-lt, bit-pow, bit-zero, nonzero-bit}
+use Rattle.bits.proofs.Bit.{bit-and, bit-not, bit-first, bit-shr, bit-lt, bit-pow, bit-zero, nonzero-bit}
 use Rattle.bits.proofs.Mask.{bits-within, within-bit, ones-zero}
-use Rattle.bits.proofs.Range.{keep-ext, all-mem, mem-all, any-mem, mem-any, any-map, same-true, same-refl}
+use Rattle.bits.proofs.Range.{keep-all, keep-ext, all-mem, mem-all, any-mem, mem-any, any-map, same-true, same-refl}
 use Rattle.bits.proofs.Ascending.{ascending-map, ascending-ext}
 use Rattle.bits.proofs.Places.{places-and}
 use Rattle.bits.proofs.Word.{ascending-places, places-lt, mem-places, word-places, places-word, ones-places, places-lowest}
@@ -47,9 +51,29 @@ bit-one : (i : ℕ) → not (bit 1 i) ≡ ltb 0 i
 bit-one zero = ap not (bit-pow 0 0)
 bit-one (suc i) = ap not (bit-pow 0 (suc i) ∙ ne-eqb (suc i) 0 (λ e. omega arith)) ∙ sym (lt-ltb 0 (suc i) (zero-lt-suc i))
 
-pub places-nonzero : (k w : ℕ) → 1 < 2 ^ k → places k (bitAnd w ((2 ^ k - 1) - 1)) ≡ keep (λ i. ltb 0 i) (places k w)
-places-nonzero k w h =
+abbrev pub withoutZero : ℕ → ℕ → ℕ
+withoutZero k w = bitAnd w ((2 ^ k - 1) - 1)
+
+pub places-withoutZero : (k w : ℕ) → 1 < 2 ^ k → places k (withoutZero k w) ≡ keep (λ i. ltb 0 i) (places k w)
+places-withoutZero k w h =
     places-and-not k w 1 h ∙ keep-ext (λ i. not (bit 1 i)) (λ i. ltb 0 i) (places k w) (λ i m. bit-one i)
+
+pub withoutZero-even : (k w : ℕ) → 1 < 2 ^ k → withoutZero k w % 2 ≡ 0
+withoutZero-even zero w h = absurd (omega arith)
+withoutZero-even (suc k) w h =
+    let e : ((2 ^ suc k - 1) - 1) % 2 ≡ 0 = omega arith in
+    and-mod w ((2 ^ suc k - 1) - 1) 1 ∙ ap (bitAnd (w % 2)) e ∙ and-zero-r (w % 2)
+
+pub withoutZero-lt : (k w : ℕ) → w < 2 ^ k → withoutZero k w < 2 ^ k
+withoutZero-lt k w h = lt-of-le-of-lt (and-le-l w ((2 ^ k - 1) - 1)) h
+
+pub places-even : (k w : ℕ) → w < 2 ^ k → w % 2 ≡ 0 → keep (λ i. ltb 0 i) (places k w) ≡ places k w
+places-even k w h even =
+    keep-all (λ i. ltb 0 i) (places k w) (mem-all (λ i. ltb 0 i) (places k w) (λ i m. positive i (sym (mem-bit k w i h) ∙ m)))
+  where
+    positive : (i : ℕ) → bit w i ≡ true → ltb 0 i ≡ true
+    positive zero b = absurd (false≢true (ap (λ (d : ℕ). eqb d 1) (sym even) ∙ sym (bit-first w) ∙ b))
+    positive (suc i) b = lt-ltb 0 (suc i) (zero-lt-suc i)
 
 module _ (k w c : ℕ) (h : w < 2 ^ k) (low : (i : ℕ) → bit w i ≡ true → c ≤ i) where
   least : (i : ℕ) → mem i (places k w) ≡ true → c ≤ i

@@ -2,9 +2,7 @@
 -- It rests on the laws of words as sets of places (bits, Sets), of shifts and masks (bits, Quotient), on the words about masks (mask_words, Entries),
 -- on the single flags (Flags) and on the laws of covered monomials, families and literals (laws, Covered, Family, Literals).
 --   coefficient-word                             == the coefficient of a mask
---   nonzeroWord w                                == w & !1, the word without its place 0
---   places-nonzeroWord                           == its places are the monomials
---   nonzeroWord-even, nonzeroWord-lt             == it is even, and of 64 bits where w is
+--   monomials-word                               == the monomials
 --   count-word                                   == how many monomials there are
 --   pair-positive, pair-word                     == the two monomials of a form that has two
 --   family-word                                  == whether the form is a whole family
@@ -14,9 +12,9 @@
 use mathlib.Core.Bool.{Bool, not, _&&_, and-comm}
 use mathlib.Core.List.{List, [], _∷_, map}
 use mathlib.Core.Path.{_≡_, sym, ap, _∙_}
-use Prim.Native.Nat.{ℕ, _-_, _/_, _%_, _^_, _<_}
+use Prim.Native.Nat.{ℕ, _-_, _/_, _^_, _<_}
 use native.Mathlib.Nat.{lt-of-le-of-lt}
-use lib.Bits.{bitAnd, and-le-l, and-mod, and-zero-r}
+use lib.Bits.{bitAnd, and-le-l}
 use lib.Count.{ones, trailingZeros}
 use lib.Dec.{ltb, eqb, lit<}
 use lib.ListN.{length}
@@ -28,7 +26,8 @@ use Rattle.bits.proofs.Quotient.{shift-digit}
 use Rattle.bits.proofs.Range.{keep-ext, keep-keep}
 use Rattle.bits.proofs.Word.{places-lt, ones-places}
 use Rattle.bits.proofs.Places.{places-and}
-use Rattle.bits.proofs.Sets.{mem-bit, places-and-not, places-nonzero, places-shr, places-positive, places-two, same-places}
+use Rattle.bits.proofs.Sets.{mem-bit, places-and-not, withoutZero, places-withoutZero, withoutZero-lt, places-shr, places-positive, places-two}
+use Rattle.bits.proofs.Sets.{same-places}
 use Rattle.rules.specs.Cleanup.{family, singles, isFamily, covered, stripped}
 use Rattle.rules.specs.Form.{literals}
 use Rattle.rules.specs.Monomial.{monomials}
@@ -66,45 +65,40 @@ module _ (w c : ℕ) where
       places-and-not 64 w (subsetWord c) (subsets-lt c k)
       ∙ keep-ext (λ m. not (bit (subsetWord c) m)) (λ m. not (mem m (family c))) (places 64 w) (λ m e. ap not (bit-subsets c m))
 
-abbrev pub nonzeroWord : ℕ → ℕ
-nonzeroWord w = bitAnd w ((2 ^ 64 - 1) - 1)
-
-pub places-nonzeroWord : (w : ℕ) → places 64 (nonzeroWord w) ≡ monomials (places 64 w)
-places-nonzeroWord w = places-nonzero 64 w (lit< tt)
-
-pub nonzeroWord-even : (w : ℕ) → nonzeroWord w % 2 ≡ 0
-nonzeroWord-even w = and-mod w ((2 ^ 64 - 1) - 1) 1 ∙ and-zero-r (w % 2)
+pub monomials-word : (w : ℕ) → places 64 (withoutZero 64 w) ≡ monomials (places 64 w)
+monomials-word w = places-withoutZero 64 w (lit< tt)
 
 module _ (w : ℕ) (h : w < 2 ^ 64) where
   pub coefficient-word : (m : ℕ) → bitAnd (w / 2 ^ m) 1 ≡ digit (mem m (places 64 w))
   coefficient-word m = shift-digit w m ∙ sym (ap digit (mem-bit 64 w m h))
 
+  -- the word without the constant
   abbrev v : ℕ
-  v = nonzeroWord w
+  v = withoutZero 64 w
 
-  pub nonzeroWord-lt : nonzeroWord w < 2 ^ 64
-  nonzeroWord-lt = lt-of-le-of-lt (and-le-l w ((2 ^ 64 - 1) - 1)) h
+  v-lt : v < 2 ^ 64
+  v-lt = withoutZero-lt 64 w h
 
-  pub count-word : ones (nonzeroWord w) ≡ length (monomials (places 64 w))
-  count-word = ones-places 64 v nonzeroWord-lt ∙ ap length (places-nonzeroWord w)
+  pub count-word : ones v ≡ length (monomials (places 64 w))
+  count-word = ones-places 64 v v-lt ∙ ap length (monomials-word w)
 
   module _ (two : length (monomials (places 64 w)) ≡ 2) where
     many : length (places 64 v) ≡ 2
-    many = ap length (places-nonzeroWord w) ∙ two
+    many = ap length (monomials-word w) ∙ two
 
-    pub pair-positive : 0 < nonzeroWord w
-    pair-positive = places-positive 64 v 1 nonzeroWord-lt many
+    pub pair-positive : 0 < v
+    pair-positive = places-positive 64 v 1 v-lt many
 
-    pub pair-word : monomials (places 64 w) ≡ trailingZeros 64 (nonzeroWord w) ∷ trailingZeros 64 (bitAnd (nonzeroWord w) (nonzeroWord w - 1)) ∷ []
-    pair-word = sym (places-nonzeroWord w) ∙ places-two 64 v nonzeroWord-lt many
+    pub pair-word : monomials (places 64 w) ≡ trailingZeros 64 v ∷ trailingZeros 64 (bitAnd v (v - 1)) ∷ []
+    pair-word = sym (monomials-word w) ∙ places-two 64 v v-lt many
 
-  pub family-word : (ltb 0 (singles (places 64 w)) && eqb (nonzeroWord w) (subsetWord (singles (places 64 w)))) ≡ isFamily (places 64 w)
+  pub family-word : (ltb 0 (singles (places 64 w)) && eqb v (subsetWord (singles (places 64 w)))) ≡ isFamily (places 64 w)
   unfolding isFamily subsetWord
   family-word =
       let u = singles (places 64 w) in
       ap (λ (b : Bool). ltb 0 u && b)
-      (sym (same-places 64 v (family u) nonzeroWord-lt (ascending-family u) (below-family u (singles-lt w)))
-      ∙ ap (λ (r : List ℕ). same r (family u)) (places-nonzeroWord w))
+      (sym (same-places 64 v (family u) v-lt (ascending-family u) (below-family u (singles-lt w)))
+      ∙ ap (λ (r : List ℕ). same r (family u)) (monomials-word w))
 
   pub stripped-word : (c : ℕ) → 0 < c → places 64 (bitAnd w (supersetWord c) / 2 ^ c) ≡ stripped c (places 64 w)
   unfolding stripped

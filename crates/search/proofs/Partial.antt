@@ -6,29 +6,28 @@
 --   partial-true                                == a mask passes
 --   partial-within                              == its flags are single-flag monomials
 --   bestFamily-chosen                           == the best family is chosen from the monomials within the single flags
-use mathlib.Core.Bool.{Bool, true, false, false≢true, _&&_, and-true, and-false, and-self}
+use mathlib.Core.Bool.{Bool, true, false, _&&_, and-true, and-false, and-self}
 use mathlib.Core.List.{List, foldl}
 use mathlib.Core.Path.{_≡_, sym, ap, ap₂, fun-ext, _∙_}
-use Prim.Native.Nat.{ℕ, zero, suc, _-_, _%_, _^_, _≤_, _<_}
-use native.Mathlib.Nat.{le-of-eq, zero-lt-suc}
+use Prim.Native.Nat.{ℕ, _-_, _%_, _^_, _≤_, _<_}
+use native.Mathlib.Nat.{le-of-eq}
 use native.Mathlib.Omega.{arith}
 use lib.Bits.{bitAnd, and-comm}
 use lib.Count.{ones}
-use lib.Dec.{eqb, ltb, leb}
+use lib.Dec.{ltb, leb}
 use lib.ListN.{length}
 use lib.Pow.{pow-pos}
 use borrow.Author.Tests.{ltb-true, lt-ltb, le-ltb, leb-true, le-leb, lt-leb, eq-eqb, ne-eqb}
 use Rattle.bits.specs.Bit.{bit, within}
 use Rattle.bits.specs.Range.{keep, all, mem}
 use Rattle.bits.specs.Word.{places}
-use Rattle.bits.proofs.Bit.{bit-first}
 use Rattle.bits.proofs.Truth.{and-intro, and-true-l, and-true-r, and-implied}
 use Rattle.bits.proofs.Mask.{bits-within, within-le, within-pow, ones-sub, ones-pos}
-use Rattle.bits.proofs.Range.{keep-all, keep-keep, keep-ext, mem-keep, mem-all, all-mem, all-ext}
+use Rattle.bits.proofs.Range.{keep-keep, keep-ext, mem-keep, all-mem, all-ext}
 use Rattle.bits.proofs.Ascending.{ascending-keep}
 use Rattle.bits.proofs.Word.{ascending-places, places-lt, ones-places}
 use Rattle.bits.proofs.Places.{places-and}
-use Rattle.bits.proofs.Sets.{mem-bit, all-bit}
+use Rattle.bits.proofs.Sets.{mem-bit, withoutZero, places-even, all-bit}
 use Rattle.bits.proofs.Union.{bit-union-singles}
 use Rattle.rules.specs.Cleanup.{family, singles, isPartial, bestFamily, greatest}
 use Rattle.rules.specs.Monomial.{monomials}
@@ -37,7 +36,7 @@ use Rattle.laws.proofs.form.Family.{mem-family}
 use Rattle.search.specs.Inner.{chosen}
 use Rattle.mask_words.specs.Lookup.{subsetWord}
 use Rattle.search.proofs.Chosen.{greatest-chosen}
-use Rattle.form.proofs.WordOperations.{nonzeroWord, places-nonzeroWord}
+use Rattle.form.proofs.WordOperations.{monomials-word}
 use Rattle.mask_words.proofs.Entries.{bit-subsets, places-subsets, subsets-lt}
 use Rattle.search.proofs.Saving.{greatest-saving}
 
@@ -68,11 +67,7 @@ module _ (l : List ℕ) (m : ℕ) where
 -- the word v of the monomials, and the word s of the nonempty subsets of m
 module _ (v m s : ℕ) (h : v < 2 ^ 64) (even : v % 2 ≡ 0) (k : m < 64) (table : s ≡ subsetWord m) where
   no-constant : monomials (places 64 v) ≡ places 64 v
-  no-constant = keep-all (ltb 0) (places 64 v) (mem-all (ltb 0) (places 64 v) (λ m e. positive m (sym (mem-bit 64 v m h) ∙ e)))
-    where
-      positive : (m : ℕ) → bit v m ≡ true → ltb 0 m ≡ true
-      positive zero b = absurd (false≢true (ap (λ (d : ℕ). eqb d 1) (sym even) ∙ sym (bit-first v) ∙ b))
-      positive (suc m) b = lt-ltb 0 (suc m) (zero-lt-suc m)
+  no-constant = places-even 64 v h even
 
   in-word : s < 2 ^ 64
   in-word = rw table (subsets-lt m k)
@@ -126,7 +121,7 @@ module _ (w : ℕ) where
 
   -- the word of the monomials, and that of the nonempty sets of single flags
   abbrev v : ℕ
-  v = nonzeroWord w
+  v = withoutZero 64 w
 
   abbrev s : ℕ
   s = subsetWord (singles l)
@@ -139,7 +134,7 @@ module _ (w : ℕ) where
 
   candidates : keep p (places 64 (bitAnd v s)) ≡ keep p (monomials l)
   candidates =
-      ap (keep p) (places-and 64 v s ∙ ap (keep (bit s)) (places-nonzeroWord w)) ∙ keep-keep p (bit s) (monomials l)
+      ap (keep p) (places-and 64 v s ∙ ap (keep (bit s)) (monomials-word w)) ∙ keep-keep p (bit s) (monomials l)
       ∙ keep-ext (λ m. bit s m && p m) p (monomials l)
       (λ m e. and-implied (bit s m) (p m)
       (λ t. bit-subsets (singles l) m ∙ mem-family m (singles l) ∙ and-intro _ _ (positive m e) (partial-within l m t)))
@@ -154,6 +149,6 @@ module _ (w : ℕ) where
   unfolding bestFamily
   bestFamily-chosen =
       ap (λ (q : ℕ → Bool). foldl (chosen q) 0 (places 64 (bitAnd v s)))
-      (fun-ext (λ m. ap (λ (r : List ℕ). isPartial r m) (places-nonzeroWord w) ∙ partial-monomials l m))
+      (fun-ext (λ m. ap (λ (r : List ℕ). isPartial r m) (monomials-word w) ∙ partial-monomials l m))
       ∙ sym (greatest-chosen p (places 64 (bitAnd v s))) ∙ ap (greatest ones) candidates
       ∙ sym (greatest-saving (keep p (monomials l)) (ascending-keep p (monomials l) (ascending-keep (ltb 0) l (ascending-places 64 w))) worthy)

@@ -12,7 +12,7 @@ use native.Mathlib.Nat.{zero-mul, one-mul}
 use native.Mathlib.Omega.{arith}
 use lib.Bits.{bitAnd, bitOr, and-comm as bitAnd-comm}
 use lib.Count.{ones}
-use lib.Dec.{eqb, leb, ltb, leb·suc-zero}
+use lib.Dec.{eqb, leb, ltb, lit<, leb·suc-zero}
 use lib.ListN.{length}
 use borrow.Author.Tests.{eqb-true, ltb-true, ltb-false, lt-ltb, le-ltb}
 use Rattle.bits.specs.Bit.{bit, digit, within}
@@ -25,10 +25,11 @@ use Rattle.bits.proofs.Mask.{and-pow, ones-pow}
 use Rattle.bits.proofs.Range.{keep-keep, keep-ext, keep-false, all-mem, mem-upto, mem-from}
 use Rattle.bits.proofs.Ascending.{below-mem}
 use Rattle.bits.proofs.Places.{ones-and, length-total}
+use Rattle.bits.proofs.Sets.{withoutZero, withoutZero-lt, places-withoutZero}
 use Rattle.bits.proofs.Sum.{plus-laws, sum-op, sum-unit, sum-ext-mem}
 use Rattle.bits.proofs.Word.{below-places}
 use Rattle.rules.specs.Cleanup.{covered}
-use Rattle.form.proofs.WordOperations.{nonzeroWord, places-nonzeroWord, nonzeroWord-lt}
+use Rattle.form.proofs.WordOperations.{monomials-word}
 use Rattle.search.specs.Inner.{reach, Reached}
 
 abbrev more : Bool → ℕ → ℕ
@@ -162,7 +163,7 @@ module _ (w : ℕ) (h : w < 2 ^ 64) where
 
 -- ---- the search
 
-module _ (w one two : ℕ) (h : w < 2 ^ 64) (r : Reached (nonzeroWord w) 6 one two) where
+module _ (w one two : ℕ) (h : w < 2 ^ 64) (r : Reached (withoutZero 64 w) 6 one two) where
   shared : (c : ℕ) → mem c (from 1 63) ≡ true → (bit two c && ltb 0 c) ≡ leb 2 (length (covered c (places 64 w)))
   unfolding covered
   shared c e =
@@ -170,11 +171,11 @@ module _ (w one two : ℕ) (h : w < 2 ^ 64) (r : Reached (nonzeroWord w) 6 one t
       let k = ltb-true c 64 (and-true-r (leb 1 c) (ltb c 64) u) in
       ap (λ (b : Bool). bit two c && b) (and-true-l (leb 1 c) (ltb c 64) u) ∙ and-true (bit two c) ∙ r .twice c
       ∙ ap (ltb 1)
-      (reach-six (nonzeroWord w) (nonzeroWord-lt w h) c k ∙ ap (λ (l : List ℕ). length (keep (λ m. within c m) l)) (places-nonzeroWord w))
+      (reach-six (withoutZero 64 w) (withoutZero-lt 64 w h) c k ∙ ap (λ (l : List ℕ). length (keep (λ m. within c m) l)) (monomials-word w))
 
-  pub shared-word : places 64 (nonzeroWord two) ≡ keep (λ c. leb 2 (length (covered c (places 64 w)))) (from 1 63)
+  pub shared-word : places 64 (withoutZero 64 two) ≡ keep (λ c. leb 2 (length (covered c (places 64 w)))) (from 1 63)
   unfolding places from
   shared-word =
-      places-nonzeroWord two ∙ keep-keep (λ i. ltb 0 i) (bit two) (upto 64)
+      places-withoutZero 64 two (lit< tt) ∙ keep-keep (λ i. ltb 0 i) (bit two) (upto 64)
       ∙ keep-false (λ i. bit two i && ltb 0 i) 0 (from 1 63) (and-false (bit two 0))
       ∙ keep-ext (λ i. bit two i && ltb 0 i) (λ c. leb 2 (length (covered c (places 64 w)))) (from 1 63) shared

@@ -1,4 +1,4 @@
--- `packed_anf::get` meets its contract: the shifted word's lowest digit is the coefficient's bit.
+-- `packed_anf::get` meets its contract: the shifted word's lowest digit is the coefficient's bit (bits, Quotient).
 use mathlib.Core.Path.{ap₂, _∙_}
 use Prim.Native.Nat.{ℕ, _/_, _%_, _^_}
 use borrow.Author.Needs.{needs}

@@ -8,15 +8,16 @@ use native.Mathlib.Omega.{arith}
 use borrow.Author.Needs.{needs}
 use lib.Bits.{bitAnd, and-le-l}
 use lib.Count.{trailingZeros}
+use lib.Dec.{lit<}
 use Rattle.bits.specs.Word.{places}
 use Rattle.bits.proofs.Lowest.{trailing-lt, clear-lt}
 use Rattle.bits.proofs.Places.{places-zero}
+use Rattle.bits.proofs.Sets.{withoutZero, withoutZero-lt, withoutZero-even}
 use Rattle.bits.proofs.Word.{places-lowest}
 use Rattle.rules.specs.Cleanup.{isPartial, bestFamily}
 use Rattle.mask_words.specs.Lookup.{subsetWord}
 use Rattle.form.specs.Masks.{masks}
 use Rattle.form.proofs.Flags.{singles-lt}
-use Rattle.form.proofs.WordOperations.{nonzeroWord, nonzeroWord-lt, nonzeroWord-even}
 use Rattle.search.specs.Family.{positive}
 use Rattle.search.specs.Inner.{chosen}
 use Rattle.search.proofs.Partial.{bestFamily-chosen}
@@ -49,7 +50,7 @@ subsets-requires : tie.Need-subsets-requires Inv-loop μ-loop
 subsets-requires c κs = (c .before .before .pre, inside c)
 
 loop-holds : tie.Need-loop-holds Inv-loop μ-loop
-loop-holds c = let w = entry c .args .form .word in (lt-of-le-of-lt (and-le-l (nonzeroWord w) _) (nonzeroWord-lt w (omega arith)), refl)
+loop-holds c = let w = entry c .args .form .word in (lt-of-le-of-lt (and-le-l (withoutZero 64 w) _) (withoutZero-lt 64 w (omega arith)), refl)
 
 -- the lowest mask that is left is one of six flags
 lowest : (c : tie.In-loop Inv-loop μ-loop) → trailingZeros 64 (c .before .loop .left) < 64
@@ -62,7 +63,9 @@ subsets-requires-2 : tie.Need-subsets-requires-2 Inv-loop μ-loop
 subsets-requires-2 c κs = (entry (c .before .before) .pre, lowest c)
 
 better-family-requires : tie.Need-better-family-requires Inv-loop μ-loop
-better-family-requires c κs = (lowest (c .before), c .subsets2 .ensures, nonzeroWord-even (entry (c .before .before .before) .args .form .word))
+better-family-requires c κs =
+    let w = entry (c .before .before .before) .args .form .word in
+    (lowest (c .before), c .subsets2 .ensures, withoutZero-even 64 w (lit< tt))
 
 sub-left : tie.Need-sub-left Inv-loop μ-loop
 sub-left c = omega arith
@@ -74,7 +77,7 @@ loop-again : tie.Need-loop-again Inv-loop μ-loop
 loop-again c =
     let t = c .before .before .before in
     let v = t .loop .left in
-    let monomials = nonzeroWord (entry (t .before) .args .form .word) in (
+    let monomials = withoutZero 64 (entry (t .before) .args .form .word) in (
       lt-of-le-of-lt (and-le-l v (v - 1)) (t .loop .inv .0),
       ap (λ (b : ℕ). choice monomials b (bitAnd v (v - 1))) (c .better-family .ensures)
           ∙ sym (ap (foldl (chosen (isPartial (places 64 monomials))) (t .loop .best)) (places-lowest 64 v (omega arith) (t .loop .inv .0)))
@@ -86,7 +89,7 @@ chosen-all : (c : tie.After-loop Inv-loop μ-loop) → c .before .loop .best ≡
 chosen-all c =
     let found = c .before .before in
     let w = entry found .args .form .word in
-    let monomials = nonzeroWord w in
+    let monomials = withoutZero 64 w in
     sym (ap (foldl (chosen (isPartial (places 64 monomials))) (c .before .loop .best)) (ap (places 64) (c .loop-test .left) ∙ places-zero 64))
     ∙ c .before .loop .inv .1
     ∙ ap (λ (x : ℕ). choice monomials 0 (bitAnd monomials x)) (found .subsets .ensures ∙ ap subsetWord (found .before .singles .ensures))

@@ -2,7 +2,7 @@
 -- flag (mask_words, Entries).
 use mathlib.Core.Path.{refl}
 use native.Mathlib.Omega.{arith}
-use Rattle.form.proofs.WordOperations.{nonzeroWord}
+use Rattle.bits.proofs.Sets.{withoutZero}
 use Rattle.mask_words.proofs.Entries.{bit-flag}
 use Rattle.search.proofs.Shared.{reached-start, shared-word}
 use borrow.Author.Needs.{needs}
@@ -58,7 +58,7 @@ returns c =
     let a = b .before in
     let words = a .before .before in
     let w = words .before .args .form .word in
-    let v = nonzeroWord w in
+    let v = withoutZero 64 w in
     let flag = bit-flag (words .flag-words .result) (words .flag-words .ensures) in
     let r1 = a .without-flag .ensures v 0 refl (flag 0 (omega arith)) (reached-start v) in
     let r2 = b .without-flag2 .ensures v 1 refl (flag 1 (omega arith)) r1 in

@@ -1,5 +1,5 @@
 -- `anf_transform::pack::pack_word` meets its contract. The loop's invariant: the word has the low bits of the first j entries. The measure is what is
--- left of the count.
+-- left of the count. An entry's low bit is its remainder by 2 (bits, Quotient).
 use mathlib.Core.Bool.{Bool}
 use mathlib.Core.Path.{_≡_, sym, ap, ap₂, _∙_}
 use Prim.Native.Nat.{ℕ, _+_, _-_, _*_, _%_, _^_, _≤_}

@@ -1,4 +1,5 @@
 -- `anf_transform::pack::unpack_word` meets its contract. The loop's invariant: the first j bits are stored. The measure is what is left of the count.
+-- The shifted word's lowest digit is its bit (bits, Quotient).
 use mathlib.Core.List.{List, [], _∷_, map}
 use mathlib.Core.Path.{_≡_, sym, ap, ap₂, _∙_}
 use Prim.Native.Nat.{ℕ, _+_, _-_, _≤_}

@@ -1,4 +1,4 @@
--- `form::Form::coefficient` meets its contract: the shifted word's lowest digit is the mask's bit.
+-- `form::Form::coefficient` meets its contract: the shifted word's lowest digit is the mask's bit (bits, Quotient).
 use native.Mathlib.Omega.{arith}
 use borrow.Author.Needs.{needs}
 use Rattle.bits.specs.Range.{mem}

@@ -5,9 +5,10 @@ use Prim.Native.Nat.{ℕ, _<_}
 use native.Mathlib.Omega.{arith}
 use borrow.Author.Needs.{needs}
 use lib.Dec.{eqb, ltb}
+use Rattle.bits.proofs.Sets.{withoutZero}
 use Rattle.mask_words.specs.Lookup.{subsetWord}
 use Rattle.form.proofs.Flags.{singles-lt}
-use Rattle.form.proofs.WordOperations.{nonzeroWord, family-word}
+use Rattle.form.proofs.WordOperations.{family-word}
 use Rattle.form.proofs.Form.is_family.Statement.{statement}
 use Rattle.form.proofs.Form.is_family.Tie as tie
 
@@ -25,8 +26,8 @@ returns : tie.Need-returns
 returns c =
     let s = c .before .before in
     let w = s .before .args .self .word in
-    ap (λ (x : ℕ). ltb 0 (s .singles .result) && eqb (nonzeroWord w) x) (c .subsets .ensures)
-    ∙ ap (λ (u : ℕ). ltb 0 u && eqb (nonzeroWord w) (subsetWord u)) (s .singles .ensures) ∙ family-word w (omega arith)
+    ap (λ (x : ℕ). ltb 0 (s .singles .result) && eqb (withoutZero 64 w) x) (c .subsets .ensures)
+    ∙ ap (λ (u : ℕ). ltb 0 u && eqb (withoutZero 64 w) (subsetWord u)) (s .singles .ensures) ∙ family-word w (omega arith)
 
 pub is-family-spec : {M : Type 1} → statement M
 is-family-spec = tie.close (tie.spec singles-requires subsets-requires returns)

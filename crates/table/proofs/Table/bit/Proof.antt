@@ -1,4 +1,4 @@
--- `table::Table::bit` meets its contract, which says what a bit is.
+-- `table::Table::bit` meets its contract: the shifted word's lowest digit is the setting's bit (bits, Quotient).
 use borrow.Author.Needs.{needs}
 use Rattle.bits.specs.Bit.{bit}
 use Rattle.bits.proofs.Bit.{digit-is}
