@@ -1,5 +1,5 @@
 //! The library's calls over slices: the functions of include/guide_rules.h, each with an answer block of its own. A call gives the refusal's number, 0
-//! for none; the two for stars give the value. It rests on the static library `guide_rules`.
+//! for none; `value`, `evaluate_stars` and `raw` give the result. It rests on the static library `guide_rules`.
 
 #[link(name = "guide_rules", kind = "static")]
 extern "C" {
@@ -41,6 +41,11 @@ pub fn listing(flags: usize, words: &[u64], out: &mut [u32]) -> u64 {
 
 pub fn raw_cost(flags: usize, words: &[u64]) -> u64 {
     answered(|a, k| unsafe { rule_raw_cost(flags as u64, words.as_ptr(), words.len() as u64, a, k) })
+}
+
+/// The cost.
+pub fn raw(flags: usize, words: &[u64]) -> u64 {
+    given(|a, k| unsafe { rule_raw_cost(flags as u64, words.as_ptr(), words.len() as u64, a, k) })
 }
 
 pub fn compile(flags: usize, table: &[u64], out: &mut [u8]) -> u64 {

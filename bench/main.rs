@@ -7,6 +7,7 @@ use std::time::Instant;
 
 mod calls;
 mod growth;
+mod raw_costs;
 mod stars;
 
 use original::core::expr::{Expr, Kind};
@@ -226,7 +227,6 @@ fn expressions(random: &mut Random) {
     for n in 3..=6usize {
         let tables: Vec<Vec<u64>> = (0..60).map(|_| table(n, "random", random)).collect();
         let trees: Vec<Arc<Expr>> = tables.iter().map(|t| build_anf_expr(&compute_anf(t, n as u32), n as u32)).collect();
-        let forms: Vec<PackedAnf> = tables.iter().map(|t| compute_anf(t, n as u32)).collect();
         let bytes: Vec<Vec<u8>> = trees
             .iter()
             .map(|t| {
@@ -274,19 +274,6 @@ fn expressions(random: &mut Random) {
             },
         );
         row(&format!("examination, {n} flags"), "random tables' expressions", times);
-        let times = measure(
-            trees.len(),
-            repeat,
-            |i| {
-                // The original's raw cost takes a listed form, which it makes of the coefficients.
-                black_box(AnfForm::from_anf_coeffs(black_box(&forms[i]), n as u32).monomials.iter().map(|m| 2 * m.count_ones()).sum::<u32>());
-            },
-            |i| {
-                let w = black_box(forms[i].words());
-                black_box(calls::raw_cost(n, w));
-            },
-        );
-        row(&format!("raw costing, {n} flags"), "random tables' coefficients", times);
     }
 }
 
@@ -295,6 +282,7 @@ fn main() {
     match std::env::args().nth(1).as_deref() {
         Some("growth") => return growth::print(&mut random),
         Some("stars") => return stars::print(&mut random),
+        Some("raw_costs") => return raw_costs::print(&mut random),
         _ => {}
     }
     println!("| Call | Inputs | Original, ns | Ours, ns | Ratio of means | Ratio of slowest tenths |");

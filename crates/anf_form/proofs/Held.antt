@@ -8,7 +8,7 @@
 --   block-none, block-some   == those of degree d in word i: none where i has more ones already, else those of degree d less the ones of i
 --   ascending-held           == they ascend
 --   constant-held            == the constant is coefficient 0
---   held-form, held-first    == the words of n flags hold its form, if no coefficient is stray; of at most six flags the first word does
+--   held-form                == the words of n flags hold its form, if no coefficient is stray
 --   below-held               == the masks of n flags are below 2^n
 use mathlib.Core.Bool.{Bool, true, false, not, _&&_}
 use mathlib.Core.List.{List, [], _++_, map, append-nil}
@@ -31,7 +31,7 @@ use Rattle.bits.proofs.Range.{keep-append, keep-map, keep-ext, keep-none, mem-a
 use Rattle.bits.proofs.Ascending.{ascending-from, ascending-keep, below-upto, below-keep, below-mem}
 use Rattle.rules.specs.Coefficient.{wordCount, packed, stray}
 use Rattle.rules.specs.Monomial.{form, constant}
-use Rattle.laws.proofs.transform.Packed.{wordCount-small, wordCount-room, packed-at, not-stray}
+use Rattle.laws.proofs.transform.Packed.{wordCount-room, packed-at, not-stray}
 use Rattle.mask_words.specs.inner.Degree.{ofDegree}
 use Rattle.mask_words.specs.Lookup.{maskCount}
 use Rattle.anf_form.specs.Inner.{held, block, ofBlock}
@@ -142,8 +142,3 @@ module _ (ws : List ℕ) where
     pub below-held : Below (2 ^ n) (held (wordCount n) ws)
     unfolding form
     below-held = subst (Below (2 ^ n)) held-form (below-keep (2 ^ n) (packed ws) (upto (2 ^ n)) (below-upto (2 ^ n)))
-
-    pub held-first : n ≤ 6 → form n (packed ws) ≡ block 0 ws
-    held-first h =
-        held-form ∙ ap (λ (k : ℕ). held k ws) (wordCount-small n h)
-        ∙ keep-ext (packed ws) (λ j. packed ws (64 * 0 + j)) (upto 64) (λ j m. ap (packed ws) (omega arith))

@@ -1,6 +1,7 @@
 // The monomials of a form in their order and its raw cost, after `AnfForm::from_anf_coeffs` and `raw_anf_cost` of `anf_cleanup.rs`. It rests on
 // `form` and on `packed_anf`.
 mod degree;
+mod terms;
 
 use rules::FORM_FLAGS;
 use rules::RULE_FLAGS;
@@ -71,7 +72,7 @@ pub fn from_anf_coeffs(flags: usize, coefficients: &[u64], out: &mut [u32]) -> L
     })
 }
 
-// The cost of the raw form, from its coefficients.
+// The cost of the raw form, from its coefficients: its terms are added up in mask order.
 pub fn raw_anf_cost(flags: usize, coefficients: &[u64]) -> RawCost
     ensures { λ r. ⌜ rawCostOf r ≡ Calls.rawCosting flags (now (coefficients .entry)) ⌝ }
 {
@@ -81,7 +82,8 @@ pub fn raw_anf_cost(flags: usize, coefficients: &[u64]) -> RawCost
             place: 0,
         });
     }
-    if coefficients.len() < 1 {
+    let words = packed_anf::word_count(flags);
+    if coefficients.len() < words {
         return RawCost::Refused(Refusal {
             number: SHORT_COEFFICIENTS,
             place: 0,
@@ -93,5 +95,5 @@ pub fn raw_anf_cost(flags: usize, coefficients: &[u64]) -> RawCost
             place: 0,
         });
     }
-    RawCost::Cost(degree::form_at(0, coefficients).raw_cost())
+    RawCost::Cost(terms::raw_cost(words, coefficients))
 }

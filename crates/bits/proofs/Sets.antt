@@ -8,6 +8,7 @@
 --   places-even                                == an even word has no place 0
 --   places-shr                                 == the places of w >> c, where w has none below c
 --   places-none, places-positive               == 0 has no place, and nothing else has none
+--   places-first, places-rest                  == the lowest place, and the others
 --   places-two                                 == the places of a word that has two
 --   any-bit, all-bit, same-places              == whether a word meets another, is within another, is the word of a list
 use mathlib.Core.Bool.{true, not, false≢true}
@@ -19,7 +20,7 @@ use native.Mathlib.Omega.{arith}
 use lib.Bits.{bitAnd, and-le-l, and-mod, and-zero-r}
 use lib.Count.{ones, trailingZeros}
 use lib.Dec.{eqb, ltb}
-use lib.ListN.{length}
+use lib.ListN.{length, getD, drop}
 use lib.Pow.{shr-le}
 use borrow.Author.Tests.{eqb-true, eqb-false, eq-eqb, ne-eqb, ltb-true, lt-ltb}
 use Rattle.bits.specs.Bit.{bit, within}
@@ -107,16 +108,23 @@ places-none k w h =
     bool-ext _ _ (λ e. eq-eqb w 0 (ones-zero w (ones-places k w h ∙ eqb-true (length (places k w)) 0 e)))
     (λ e. eq-eqb (length (places k w)) 0 (sym (ones-places k w h) ∙ ap ones (eqb-true w 0 e)))
 
-pub places-positive : (k w n : ℕ) → w < 2 ^ k → length (places k w) ≡ suc n → 0 < w
-places-positive k w n h e = let z = eqb-false w 0 (sym (places-none k w h) ∙ ne-eqb (length (places k w)) 0 (omega arith)) in omega arith
+module _ (k w : ℕ) (h : w < 2 ^ k) (p : 0 < length (places k w)) where
+  pub places-positive : 0 < w
+  places-positive = let z = eqb-false w 0 (sym (places-none k w h) ∙ ne-eqb (length (places k w)) 0 (omega arith)) in omega arith
+
+  pub places-first : trailingZeros k w ≡ getD (places k w) 0 0
+  places-first = sym (ap (λ (l : List ℕ). getD l 0 0) (places-lowest k w places-positive h))
+
+  pub places-rest : places k (bitAnd w (w - 1)) ≡ drop 1 (places k w)
+  places-rest = sym (ap (drop 1) (places-lowest k w places-positive h))
 
 pub places-two : (k w : ℕ) → w < 2 ^ k → length (places k w) ≡ 2 → places k w ≡ trailingZeros k w ∷ trailingZeros k (bitAnd w (w - 1)) ∷ []
 places-two k w h e =
     let r = bitAnd w (w - 1) in
-    let first = places-lowest k w (places-positive k w 1 h e) h in
+    let first = places-lowest k w (places-positive k w h (omega arith)) h in
     let s : r < 2 ^ k = lt-of-le-of-lt (and-le-l w (w - 1)) h in
     let one : length (places k r) ≡ 1 = omega (arith, ap length first) in
-    let second = places-lowest k r (places-positive k r 0 s one) s in
+    let second = places-lowest k r (places-positive k r s (omega arith)) s in
     first
     ∙ ap {B = List ℕ} (λ l. trailingZeros k w ∷ l)
     (second ∙ ap {B = List ℕ} (λ l. trailingZeros k r ∷ l) (empty _ (omega (arith, ap length second, one))))

@@ -3,9 +3,9 @@
 --   digitWord j          == the word whose bit m is binary digit j of the count of ones of m, for j below 3 and m below 64
 --   literals-digits      == literals are counted digit by digit
 --   literals-le          == they are few
---   raw-none, raw-some   == the raw cost of no mask, and of some
+--   raw-some             == the raw cost of some mask
 use mathlib.Core.Bool.{Bool, true}
-use mathlib.Core.List.{List, [], _∷_}
+use mathlib.Core.List.{[], _∷_}
 use mathlib.Core.Path.{_≡_, refl, sym, ap, _∙_}
 use Prim.Native.Nat.{ℕ, suc, _+_, _*_, _^_, _≤_, _<_}
 use native.Mathlib.Nat.{lt-of-le-of-lt}
@@ -67,8 +67,3 @@ module _ (w : ℕ) (h : w < 2 ^ 64) where
 
   pub raw-some : (length (places 64 w) ≡ 0 → ⊥) → suc (rawCost (places 64 w)) ≡ 2 * literals (places 64 w) + 2 * digit (constant (places 64 w))
   raw-some p = raw-literals (places 64 w) (ascending-places 64 w) (omega arith)
-
-pub raw-none : (l : List ℕ) → length l ≡ 0 → rawCost l ≡ 1
-unfolding rawCost
-raw-none [] e = refl
-raw-none (m ∷ l) e = absurd (omega arith)

@@ -14,6 +14,7 @@ use mathlib.Core.List.{List, [], _∷_, map}
 use mathlib.Core.Path.{_≡_, sym, ap, _∙_}
 use Prim.Native.Nat.{ℕ, _-_, _/_, _^_, _<_}
 use native.Mathlib.Nat.{lt-of-le-of-lt}
+use native.Mathlib.Omega.{arith}
 use lib.Bits.{bitAnd, and-le-l}
 use lib.Count.{ones, trailingZeros}
 use lib.Dec.{ltb, eqb, lit<}
@@ -87,7 +88,7 @@ module _ (w : ℕ) (h : w < 2 ^ 64) where
     many = ap length (monomials-word w) ∙ two
 
     pub pair-positive : 0 < v
-    pair-positive = places-positive 64 v 1 v-lt many
+    pair-positive = places-positive 64 v v-lt (omega (arith, many))
 
     pub pair-word : monomials (places 64 w) ≡ trailingZeros 64 v ∷ trailingZeros 64 (bitAnd v (v - 1)) ∷ []
     pair-word = sym (monomials-word w) ∙ places-two 64 v v-lt many

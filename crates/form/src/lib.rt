@@ -6,7 +6,7 @@ ghost use mathlib.Core.List.{[], _∷_, map};
 ghost use mathlib.Core.Path.{_≡_};
 ghost use Prim.Native.Nat.{_+_, _*_, _<_, _≤_};
 ghost use lib.Dec.{eqb};
-ghost use lib.ListN.{length};
+ghost use lib.ListN.{length, getD, drop};
 ghost use lib.Seq.{sets};
 ghost use Rattle.bits.specs.Bit.{bit, within, digit};
 ghost use Rattle.bits.specs.Range.{any, keep, mem};
@@ -73,6 +73,23 @@ impl Form {
         ensures { λ r. ⌜ r ≡ length (monomial.monomials (masks self)) ⌝ }
     {
         mask_words::ones(self.word & !1)
+    }
+
+    // The lowest mask.
+    pub fn first(self) -> usize
+        requires { ⌜ 0 < length (masks self) ⌝ }
+        ensures { λ r. ⌜ r ≡ getD (masks self) 0 0 ⌝ }
+    {
+        u64::trailing_zeros(self.word) as usize
+    }
+
+    // All masks but the lowest.
+    pub fn rest(self) -> Form
+        requires { ⌜ 0 < length (masks self) ⌝ }
+        ensures { λ r. ⌜ masks r ≡ drop 1 (masks self) ⌝ }
+    {
+        let word = self.word & (self.word - 1);
+        Form { word }
     }
 
     // The two monomials of a form that has just two.

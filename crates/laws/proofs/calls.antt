@@ -3,4 +3,5 @@ pub mod Checked
 pub mod Refused
 pub mod Stars
 pub mod EachStar
+pub mod MaskOrder
 pub mod Numbered

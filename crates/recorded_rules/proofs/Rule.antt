@@ -1,6 +1,6 @@
 -- One recorded rule, compared step by step. It rests on the definition of `agree`.
 --   agree-short   == an expression longer than the buffer does not agree
---   agree-said    == where it fits, the two calls' comparisons with the recorded numbers decide
+--   agree-said    == where it fits, the three calls' comparisons with the recorded numbers decide
 use mathlib.Core.Bool.{Bool, false, _&&_}
 use mathlib.Core.List.{List}
 use mathlib.Core.Path.{_≡_}
@@ -13,7 +13,8 @@ use Rattle.comparison.specs.Called.{comesTo}
 use Rattle.comparison.specs.Outcome.{results, sameOutcome}
 use Rattle.comparison.specs.declared.outcome.Outcome.{Outcome}
 use Rattle.recorded.specs.Numbers.{pairAt}
-use Rattle.recorded_rules.specs.Answers.{compiledOf, bytesAfter, examinedOf}
+use Rattle.recorded.specs.Results.{numberOf}
+use Rattle.recorded_rules.specs.Answers.{compiledOf, bytesAfter, rawCosted}
 use Rattle.recorded_rules.specs.Rule.{agree}
 
 module _ (n : ℕ) (t a l : List ℕ) (k : ℕ) where
@@ -21,9 +22,10 @@ module _ (n : ℕ) (t a l : List ℕ) (k : ℕ) where
   unfolding agree
   agree-short h = rw (lt-leb k (length l) h)
 
-  pub agree-said : {cost raw records : ℕ} {e : Outcome} {c d : Bool} →
+  pub agree-said : {cost raw records : ℕ} {e : Outcome} {c d r : Bool} →
       k ≤ length l → cost ≡ pairAt a 0 → raw ≡ pairAt a 2 → records ≡ pairAt a 4 → e ≡ results cost raw records k →
       c ≡ comesTo compiledOf bytesAfter (compile n t byteLimit) (replicate byteLimit 0xA5) e l →
-      d ≡ sameOutcome (examinedOf (examine n t (take k l))) (results cost 0 0 0) → (c && d) ≡ agree n t a l k
+      d ≡ sameOutcome (numberOf (examine n t (take k l))) (results cost 0 0 0) →
+      r ≡ sameOutcome (numberOf (rawCosted n t)) (results raw 0 0 0) → (c && d && r) ≡ agree n t a l k
   unfolding agree
-  agree-said h p q s e f g = rw (le-leb k (length l) h, f, g, e, p, q, s)
+  agree-said h p q s e f g i = rw (le-leb k (length l) h, f, g, i, e, p, q, s)

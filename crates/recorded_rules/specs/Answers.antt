@@ -1,9 +1,10 @@
--- The answers of the compiler and of the examiner in numbers.
+-- The answers of the compiler in numbers, and raw costing as it is asked about a table. The answers of the examiner and of raw costing are one number
+-- (recorded, Results).
 --   compiledOf o     == of the compiler's outcome on paper: cost, raw cost, number of records and number of bytes, or the refusal
 --   bytesAfter b o   == what a lent buffer that held b holds after it
---   examinedOf o     == of the examiner's outcome on paper: the cost, or the refusal
---   compiledBy a, examinedBy a   == of an answer
-use mathlib.Core.List.{List}
+--   compiledBy a     == of an answer
+--   rawCosted n t    == raw costing of what the transform of the table t leaves in a buffer of one word, which held 0
+use mathlib.Core.List.{List, [], _∷_}
 use Prim.Native.Nat.{ℕ}
 use lib.ListN.{length}
 use Rattle.rules.specs.Calls as paper
@@ -12,8 +13,6 @@ use Rattle.rules.specs.Outcome.{gives, refuses, left}
 use Rattle.compiler.specs.Answers.{bytesOf}
 use Rattle.compiler.specs.declared.Compilation.{Compilation}
 use Rattle.compiler.specs.declared.Compilation.the-variants as compilation
-use Rattle.examiner.specs.declared.Examination.{Examination}
-use Rattle.examiner.specs.declared.Examination.the-variants as examination
 use Rattle.comparison.specs.Outcome.{results, refusal}
 use Rattle.comparison.specs.declared.outcome.Outcome.{Outcome}
 
@@ -28,10 +27,5 @@ abbrev pub compiledBy : Compilation → Outcome
 compiledBy (compilation.Written e) = results (e .cost) (e .raw) (e .records) (e .bytes)
 compiledBy (compilation.Refused r) = refusal (r .number) (r .place)
 
-abbrev pub examinedOf : result.Outcome ℕ → Outcome
-examinedOf (gives c) = results c 0 0 0
-examinedOf (refuses k p) = refusal k p
-
-abbrev pub examinedBy : Examination → Outcome
-examinedBy (examination.Accepted c) = results c 0 0 0
-examinedBy (examination.Refused r) = refusal (r .number) (r .place)
+unfoldable pub rawCosted : ℕ → List ℕ → result.Outcome ℕ
+rawCosted n t = paper.rawCosting n (left (0 ∷ []) (paper.transform n t 1))

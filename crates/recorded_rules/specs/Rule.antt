@@ -1,6 +1,7 @@
 -- One recorded rule on paper.
 --   agree n t a l k   == of the table t of n flags the compiler gives the three numbers that the bytes a have and k bytes, and leaves byteLimit bytes
---                        that held the pattern as l; and the examiner accepts the first k bytes of l at that cost
+--                        that held the pattern as l; the examiner accepts the first k bytes of l at that cost; and raw costing of what the transform
+--                        makes of t gives the raw cost
 use mathlib.Core.Bool.{Bool, _&&_}
 use mathlib.Core.List.{List}
 use Prim.Native.Nat.{ℕ}
@@ -11,10 +12,12 @@ use Rattle.rules.specs.Limits.{byteLimit}
 use Rattle.comparison.specs.Called.{comesTo}
 use Rattle.comparison.specs.Outcome.{results, sameOutcome}
 use Rattle.recorded.specs.Numbers.{pairAt}
-use Rattle.recorded_rules.specs.Answers.{compiledOf, bytesAfter, examinedOf}
+use Rattle.recorded.specs.Results.{numberOf}
+use Rattle.recorded_rules.specs.Answers.{compiledOf, bytesAfter, rawCosted}
 
 unfoldable pub agree : ℕ → List ℕ → List ℕ → List ℕ → ℕ → Bool
 agree n t a l k =
     leb k (length l)
     && (comesTo compiledOf bytesAfter (compile n t byteLimit) (replicate byteLimit 0xA5) (results (pairAt a 0) (pairAt a 2) (pairAt a 4) k) l
-    && sameOutcome (examinedOf (examine n t (take k l))) (results (pairAt a 0) 0 0 0))
+    && sameOutcome (numberOf (examine n t (take k l))) (results (pairAt a 0) 0 0 0)
+    && sameOutcome (numberOf (rawCosted n t)) (results (pairAt a 2) 0 0 0))

@@ -1,5 +1,9 @@
-// The compiler's call with the outcome that it must have and the whole buffer that it must leave, and the examiner's with
-// the cost that it must accept. It rests on those two calls; the promises say that what is compared is the call on paper.
+// The compiler's call with the outcome that it must have and the whole buffer that it must leave, the examiner's with the cost
+// that it must accept, and raw costing's, of what the transform makes of a table, with the cost that it must give. It rests on
+// those calls; the promises say that what is compared is the call on paper.
+use anf_form::RawCost;
+use anf_form::raw_anf_cost;
+use anf_transform::compute_anf;
 use comparison::outcome;
 use comparison::outcome::Outcome;
 use compiler::Compilation;
@@ -9,9 +13,12 @@ use examiner::examine;
 ghost use mathlib.Core.Path.{_≡_};
 ghost use lib.ListN.{length};
 ghost use Rattle.rules.specs.Calls as paper;
+ghost use Rattle.anf_form.specs.Answers.{rawCostOf};
+ghost use Rattle.examiner.specs.Answers.{examinationOf};
 ghost use Rattle.comparison.specs.Called.{comesTo};
 ghost use Rattle.comparison.specs.Outcome.{results, sameOutcome};
-ghost use Rattle.recorded_rules.specs.Answers.{compiledOf, compiledBy, bytesAfter, examinedOf, examinedBy};
+ghost use Rattle.recorded.specs.Results.{numberOf};
+ghost use Rattle.recorded_rules.specs.Answers.{compiledOf, compiledBy, bytesAfter, rawCosted};
 
 // Fills a buffer before a call, so that a change past the result, or after a refusal, shows.
 pub const PATTERN: u8 = 0xA5;
@@ -43,7 +50,7 @@ pub fn compiles_to(
 }
 
 fn examined(answer: Examination) -> Outcome
-    ensures { λ r. ⌜ r ≡ examinedBy answer ⌝ }
+    ensures { λ r. ⌜ r ≡ numberOf (examinationOf answer) ⌝ }
 {
     match answer {
         Examination::Accepted(cost) => outcome::given(cost, 0, 0, 0),
@@ -52,8 +59,27 @@ fn examined(answer: Examination) -> Outcome
 }
 
 pub fn is_accepted(flags: usize, table: &[u64], bytes: &[u8], cost: usize) -> bool
-    ensures { λ r. ⌜ r ≡ sameOutcome (examinedOf (paper.examine flags (now (table .entry)) (now (bytes .entry)))) (results cost 0 0 0) ⌝ }
+    ensures { λ r. ⌜ r ≡ sameOutcome (numberOf (paper.examine flags (now (table .entry)) (now (bytes .entry)))) (results cost 0 0 0) ⌝ }
 {
     let answer = examine(flags, table, bytes);
     outcome::is_same(examined(answer), outcome::given(cost, 0, 0, 0))
+}
+
+fn costed(answer: RawCost) -> Outcome
+    ensures { λ r. ⌜ r ≡ numberOf (rawCostOf answer) ⌝ }
+{
+    match answer {
+        RawCost::Cost(cost) => outcome::given(cost, 0, 0, 0),
+        RawCost::Refused(refusal) => outcome::refused(refusal.number, refusal.place),
+    }
+}
+
+// The coefficients of a rule's table are one word.
+pub fn costs_raw(flags: usize, table: &[u64], raw: usize) -> bool
+    ensures { λ r. ⌜ r ≡ sameOutcome (numberOf (rawCosted flags (now (table .entry)))) (results raw 0 0 0) ⌝ }
+{
+    let mut words = [0u64; 1];
+    compute_anf(flags, table, &mut words);
+    let answer = raw_anf_cost(flags, &words);
+    outcome::is_same(costed(answer), outcome::given(raw, 0, 0, 0))
 }

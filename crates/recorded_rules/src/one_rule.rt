@@ -1,7 +1,9 @@
-// One recorded rule: its table compiled, and the recorded expression examined against the table. It rests on the comparison
-// of the two calls. The recorded answer has the cost, the raw cost and the number of records.
+// One recorded rule: its table compiled, the recorded expression examined against the table, and the table's coefficients
+// raw-costed. It rests on the comparison of the three calls. The recorded answer has the cost, the raw cost and the number of
+// records.
 use crate::calls::PATTERN;
 use crate::calls::compiles_to;
+use crate::calls::costs_raw;
 use crate::calls::is_accepted;
 use comparison::outcome::given;
 use recorded::numbers::pair_at;
@@ -23,4 +25,5 @@ pub fn agrees(flags: usize, table: &[u64], answer: &[u8], left: &[u8], length: u
     let mut out = [PATTERN; BYTE_LIMIT];
     compiles_to(flags, table, &mut out, expected, left)
         & is_accepted(flags, table, &left[..length], cost)
+        & costs_raw(flags, table, raw)
 }

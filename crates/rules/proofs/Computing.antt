@@ -7,7 +7,7 @@ use Rattle.bits.specs.Range.{from, keep, all, any, same}
 use Rattle.bits.specs.Sum.{sum}
 use Rattle.bits.specs.Word.{places, word}
 use Rattle.rules.specs.Ascii.{ascii}
-use Rattle.rules.specs.Calls.{withTable, withCoefficients, withRoom, fill, transform, wayBack, listed, listing, rawCosting}
+use Rattle.rules.specs.Calls.{withTable, withCoefficients, withRoom, fill, transform, wayBack, listed, listing, terms, rawCosting}
 use Rattle.rules.specs.Calls.{tableForm, compiled, compilation, compile, read, parse, evaluate, costing, smaller, cheaperOf, cheaperOfTwo}
 use Rattle.rules.specs.Calls.{evaluateStars, differences, judged, examine}
 use Rattle.rules.specs.Cleanup.{family, atop, better, greatest, singles, isFamily, isPartial, bestFamily, partialAt, partialOr}
@@ -26,10 +26,10 @@ use Rattle.rules.specs.Tree.{value, cost, size, depth, write, mentioned}
 
 unfoldable pub computing : Unit {0}
 unfolding bit within below turns fixed from keep all any same sum places word ones onesIn ascii withTable withCoefficients withRoom fill transform
-    wayBack listed listing rawCosting tableForm compiled compilation compile read parse evaluate costing smaller cheaperOf cheaperOfTwo differences
-    judged examine family atop better greatest singles isFamily isPartial bestFamily partialAt partialOr meets covered stripped isCube cubeSaving
-    bestCube withRest cubeAt commonCube absorb absorption cheaper contest turn cleanup coefficient wordCount packed stray wordOf words entryAt entries
-    chain halves rawForm termCost rawCost binary unary push finish operands run made form precedes insert ordered product polynomial mark marked plain
-    loaded recordAt decimalTurn decimal records report firstOf flagsOf isLine printedAs printed value cost size depth write mentioned starSetting
-    starValues evaluateStars
+    wayBack listed listing terms rawCosting tableForm compiled compilation compile read parse evaluate costing smaller cheaperOf cheaperOfTwo
+    differences judged examine family atop better greatest singles isFamily isPartial bestFamily partialAt partialOr meets covered stripped isCube
+    cubeSaving bestCube withRest cubeAt commonCube absorb absorption cheaper contest turn cleanup coefficient wordCount packed stray wordOf words
+    entryAt entries chain halves rawForm termCost rawCost binary unary push finish operands run made form precedes insert ordered product polynomial
+    mark marked plain loaded recordAt decimalTurn decimal records report firstOf flagsOf isLine printedAs printed value cost size depth write
+    mentioned starSetting starValues evaluateStars
 computing = tt

@@ -5,7 +5,8 @@
 --   withCoefficients limit n ws rest     == rows 1, 3 and 4, then the rest
 --   withRoom room l rest                 == row 5, then the rest; fill room l gives l itself
 --   transform n table room, wayBack n ws room      == the coefficient words of a table, and the table of coefficients
---   listing n ws room, rawCosting n ws             == the constant and the monomials in their order, and the raw form's cost
+--   listing n ws room, terms a           == the constant and the monomials in their order, and the raw form's terms of such a listing
+--   rawCosting n ws                      == the raw form's cost
 --   compile n table room                 == the compiler: the bytes of `compiled n table` with their counts and costs
 --   read n s p, parse n s                == the record at a place, and the tree of all records
 --   evaluate n s at, costing n s         == the value at a setting, and cost, size and depth
@@ -82,7 +83,13 @@ listing n ws room =
     withCoefficients formFlags n ws
     (withRoom room (listed (form n (packed ws)) .masks) (gives (listed (form n (packed ws)))))
 
--- "raw costing takes n and coefficients"; "Raw cost equals the raw form's `anf_expr_cost`."
+-- "The raw form's terms are constant 1 first, then monomials in list order": those of a listing; the mask 0 stands for the constant 1
+unfoldable pub terms : Listing → List ℕ
+terms a = elim (a .constant) [ true ↦ 0 ∷ a .masks | false ↦ a .masks ]
+
+-- "raw costing takes n and coefficients"; "Raw cost equals the raw form's `anf_expr_cost`." Request 3: "Add up the same terms over the coefficient
+-- word, lowest mask first.": a form's masks ascend. "For every n and word the whole sum must equal the one over the sorted list.", which is the raw
+-- cost of `terms`.
 unfoldable pub rawCosting : ℕ → List ℕ → Outcome ℕ
 rawCosting n ws = withCoefficients ruleFlags n ws (gives (rawCost (form n (packed ws))))
 

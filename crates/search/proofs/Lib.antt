@@ -4,5 +4,3 @@ pub mod Partial
 pub mod CubeTest
 pub mod Shared
 pub mod Positive
-pub mod Walk
-pub mod Injective

@@ -1,3 +1,2 @@
-pub mod Cubes
 pub mod Family
 pub mod Inner

@@ -4,14 +4,13 @@ use form::Form;
 use mask_words::Lookup;
 ghost use mathlib.Core.Path.{_≡_};
 ghost use Prim.Native.Nat.{ℕ, suc, _-_, _%_, _^_, _<_};
-ghost use lib.Dec.{eqb, leb};
-ghost use lib.ListN.{length, getD, drop};
+ghost use lib.Dec.{leb};
+ghost use lib.ListN.{length};
 ghost use Rattle.bits.specs.Range.{from, keep};
 ghost use Rattle.bits.specs.Word.{places};
 ghost use Rattle.rules.specs.Cleanup as paper;
 ghost use Rattle.form.specs.Masks.{masks};
 ghost use Rattle.mask_words.specs.Lookup.{maskCount, subsetWord, lookupWords};
-ghost use Rattle.search.specs.Cubes.{cubes};
 ghost use Rattle.search.specs.Family.{familyOf, positive};
 ghost use Rattle.search.specs.Inner.{chosen, Having, Reached};
 
@@ -21,40 +20,10 @@ pub enum Family {
     None,
 }
 
-// A set of masks, walked from the lowest.
-pub struct Cubes {
-    pub word: u64,
-}
-
 // Sets of masks: those that at least one monomial contains, and those that at least two contain.
 struct Contained {
     once: u64,
     twice: u64,
-}
-
-impl Cubes {
-    pub fn is_empty(self) -> bool
-        ensures { λ r. ⌜ r ≡ eqb (length (cubes self)) 0 ⌝ }
-    {
-        self.word == 0
-    }
-
-    // The lowest.
-    pub fn first(self) -> usize
-        requires { ⌜ 0 < length (cubes self) ⌝ }
-        ensures { λ r. ⌜ r ≡ getD (cubes self) 0 0 ⌝ }
-    {
-        u64::trailing_zeros(self.word) as usize
-    }
-
-    // All but the lowest.
-    pub fn rest(self) -> Cubes
-        requires { ⌜ 0 < length (cubes self) ⌝ }
-        ensures { λ r. ⌜ cubes r ≡ drop 1 (cubes self) ⌝ }
-    {
-        let word = self.word & (self.word - 1);
-        Cubes { word }
-    }
 }
 
 // The best family of the partial OR. Only masks of single flags that occur can have all their subsets, and more flags save more; the mask 0 has no
@@ -98,9 +67,9 @@ fn better_family(best: usize, mask: usize, monomials: u64, subsets: u64) -> usiz
     mask
 }
 
-// The nonzero masks that at least two monomials contain. A monomial that contains a mask contains it without each of its flags too.
-pub fn shared_cubes(form: Form) -> Cubes
-    ensures { λ r. ⌜ cubes r ≡ keep (λ c. leb 2 (length (paper.covered c (masks form)))) (from 1 (maskCount - 1)) ⌝ }
+// The nonzero masks that at least two monomials contain, as a form. A monomial that contains a mask contains it without each of its flags too.
+pub fn shared_cubes(form: Form) -> Form
+    ensures { λ r. ⌜ masks r ≡ keep (λ c. leb 2 (length (paper.covered c (masks form)))) (from 1 (maskCount - 1)) ⌝ }
 {
     let words = mask_words::flag_words();
     let mut found = Contained {
@@ -114,7 +83,7 @@ pub fn shared_cubes(form: Form) -> Cubes
     found = without_flag(found, words[4], 16);
     found = without_flag(found, words[5], 32);
     let word = found.twice & !1;
-    Cubes { word }
+    Form { word }
 }
 
 // One flag more that a monomial may have beside the mask it contains. `having` is the word of the masks that have the flag, `shift` the flag as a

@@ -1,22 +1,25 @@
 -- The rows that several calls share, and those of the evaluation for 64 stars, one by one: what a call answers where a row refuses, and that it goes
 -- on where none does.
--- It rests on the definitions of rules' Calls alone.
+-- It rests on the definitions of rules' Calls and on steps of outcomes (Outcome).
 --   table-flags, -short, -complete               == rows 1 and 2, and past them
 --   coefficients-flags, -short, -stray, -clean   == rows 1, 3 and 4, and past them
+--   coefficients-then                            == a step after these rows; a flag count that two limits allow
 --   room-short, room-enough                      == row 5, and past it
 --   stars-many, -short, -enough                  == rows 1 and 14, and past them
 use mathlib.Core.Bool.{true, false}
 use mathlib.Core.List.{List}
-use mathlib.Core.Path.{_≡_}
+use mathlib.Core.Path.{_≡_, ap, _∙_}
 use Prim.Native.Nat.{ℕ, _^_, _≤_, _<_}
+use lib.Dec.{ltb}
 use lib.ListN.{length}
 use borrow.Author.Tests.{lt-ltb, le-ltb, lt-leb, le-leb}
 use Rattle.rules.specs.Calls.{withTable, withCoefficients, withRoom, evaluateStars}
 use Rattle.rules.specs.Coefficient.{wordCount, stray}
 use Rattle.rules.specs.Limits.{ruleFlags, tooManyFlags, shortTable, shortCoefficients, strayCoefficient, shortOutput, shortStars}
 use Rattle.rules.specs.Machine.{made}
-use Rattle.rules.specs.Outcome.{Outcome, gives, refuses, _then_}
+use Rattle.rules.specs.Outcome.{Outcome, gives, refuses, refuse, _then_}
 use Rattle.rules.specs.Stars.{starValues}
+use Rattle.laws.proofs.calls.Outcome.{refuse-then}
 
 module _ {A : Type 0} (limit n : ℕ) (table : List ℕ) (rest : Outcome A) where
   pub table-flags : limit < n → withTable limit n table rest ≡ refuses tooManyFlags 0
@@ -50,6 +53,14 @@ module _ {A : Type 0} (limit n : ℕ) (ws : List ℕ) (rest : Outcome A) where
       pub coefficients-clean : stray n ws ≡ false → withCoefficients limit n ws rest ≡ rest
       unfolding withCoefficients
       coefficients-clean e = rw (le-ltb limit n few, le-ltb (length ws) (wordCount n) needed, e)
+
+pub coefficients-then : {A B : Type 0} (limit most n : ℕ) (ws : List ℕ) (rest : Outcome A) (f : A → Outcome B) → n ≤ limit → n ≤ most
+    → (withCoefficients limit n ws rest then f) ≡ withCoefficients most n ws (rest then f)
+unfolding withCoefficients
+coefficients-then limit most n ws rest f few h =
+    rw (le-ltb limit n few, le-ltb most n h)
+    (refuse-then (ltb (length ws) (wordCount n)) shortCoefficients 0 (refuse (stray n ws) strayCoefficient 0 rest) f
+    ∙ ap (refuse (ltb (length ws) (wordCount n)) shortCoefficients 0) (refuse-then (stray n ws) strayCoefficient 0 rest f))
 
 module _ {A : Type 0} (room : ℕ) (l : List ℕ) (rest : Outcome A) where
   pub room-short : room < length l → withRoom room l rest ≡ refuses shortOutput (length l)

@@ -3,6 +3,7 @@
 --   gives-same       == results of one outcome are equal
 --   not-both         == no outcome is a result and a refusal
 --   refuse-gives     == a row that was passed does not hold, and the rest gave the result
+--   refuse-then      == a step after a row is a step after what comes behind the row
 --   then-gives       == each of two steps gave a result
 --   then-refuses     == where the second step only computes, the first refused
 --   then-ext         == steps that agree
@@ -30,6 +31,10 @@ not-both e = let z : _≡_ {A = ℕ} 0 1 = cc in omega arith
 pub refuse-gives : {A : Type 0} (b : Bool) (k p : ℕ) (rest : Outcome A) (a : A) → refuse b k p rest ≡ gives a → (b ≡ false) × (rest ≡ gives a)
 refuse-gives true k p rest a e = absurd (not-both (sym e))
 refuse-gives false k p rest a e = (refl, e)
+
+pub refuse-then : {A B : Type 0} (b : Bool) (k p : ℕ) (rest : Outcome A) (f : A → Outcome B) → (refuse b k p rest then f) ≡ refuse b k p (rest then f)
+refuse-then true k p rest f = refl
+refuse-then false k p rest f = refl
 
 pub then-gives : {A B : Type 0} (o : Outcome A) (f : A → Outcome B) (b : B) → (o then f) ≡ gives b → (a : A) × (o ≡ gives a) × (f a ≡ gives b)
 then-gives (gives a) f b e = (a, refl, e)

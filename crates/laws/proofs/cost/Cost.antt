@@ -6,7 +6,8 @@
 --   termCost-suc, termCost-pos                     == the cost of a monomial
 --   count-chain                                    == a chain by an operation that counts 1
 --   weight m, bulk l                               == a mask's cost with 1 for joining it, and that of all masks of l
---   rawCost-bulk, rawCost-ordered                  == raw cost by weights; the order of the masks does not matter
+--   bulk-none, bulk-some                           == no mask weighs nothing, and some weigh something
+--   rawCost-none, rawCost-bulk, rawCost-ordered    == raw cost of no mask, and by weights; the order of the masks does not matter
 --   count-cube, count-folded, count-rawForm        == of products, balanced folds and raw forms, for any count
 --   cost-cube, size-cube, cost-rawForm, size-rawForm == the same of each count
 --   size-orChain, cost-orChain, cost-orChain-few   == of OR chains
@@ -124,6 +125,21 @@ weight m = suc (termCost m)
 
 abbrev pub bulk : List ℕ → ℕ
 bulk l = total weight l
+
+pub bulk-none : (l : List ℕ) → bulk l ≡ 0 → length l ≡ 0
+unfolding sum
+bulk-none [] e = refl
+bulk-none (m ∷ l) e = absurd (omega arith)
+
+pub bulk-some : (l : List ℕ) → 0 < bulk l → 0 < length l
+unfolding sum
+bulk-some [] p = absurd (omega arith)
+bulk-some (m ∷ l) p = omega arith
+
+pub rawCost-none : (l : List ℕ) → length l ≡ 0 → rawCost l ≡ 1
+unfolding rawCost
+rawCost-none [] e = refl
+rawCost-none (m ∷ l) e = absurd (omega arith)
 
 pub rawCost-bulk : (l : List ℕ) → 0 < length l → suc (rawCost l) ≡ bulk l
 unfolding rawCost

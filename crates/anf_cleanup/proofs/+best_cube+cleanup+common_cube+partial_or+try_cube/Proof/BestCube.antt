@@ -6,17 +6,16 @@ use native.Mathlib.Omega.{arith}
 use borrow.Author.Tests.{eqb-true, eqb-false, not-true, not-false}
 use lib.ListN.{length}
 use Rattle.form.specs.Masks.{masks}
-use Rattle.search.specs.Cubes.{cubes}
 use Rattle.anf_cleanup.proofs.Cubes.{Searching, search-start, search-turn, search-mask, search-fewer, search-none, search-found}
 use Rattle.anf_cleanup.proofs.best_cube.Reads as reads
 use Rattle.anf_cleanup.proofs.+best_cube+cleanup+common_cube+partial_or+try_cube.Lts-best_cube as lts
 use Rattle.anf_cleanup.proofs.+best_cube+cleanup+common_cube+partial_or+try_cube.Proof.Claims.{best-cube-at as at, best-cube-calls as calls}
 
 abbrev Inv-loop : lts.InvT-loop
-Inv-loop form lookup best₀ left₀ best left = Searching (masks form) best (cubes left)
+Inv-loop form lookup best₀ left₀ best left = Searching (masks form) best (masks left)
 
 abbrev μ-loop : lts.MeasureT-loop
-μ-loop form lookup best₀ left₀ best left = length (cubes left)
+μ-loop form lookup best₀ left₀ best left = length (masks left)
 
 module _ (t : ℕ) where
   shared-cubes-requires : lts.Need-shared-cubes-requires (calls t) (at t) reads.Post Inv-loop μ-loop
@@ -30,12 +29,12 @@ module _ (t : ℕ) where
   is-empty-requires c κs = tt
 
   -- in a turn some mask is left, and after the loop none
-  some : (c : lts.Then1 (calls t) (at t) reads.Post Inv-loop μ-loop) → 0 < length (cubes (c .before .before .loop .left))
+  some : (c : lts.Then1 (calls t) (at t) reads.Post Inv-loop μ-loop) → 0 < length (masks (c .before .before .loop .left))
   some c =
-      let full = eqb-false (length (cubes (c .before .before .loop .left))) 0 (sym (c .before .is-empty .ensures) ∙ not-true _ (c .if1 .taken)) in
+      let full = eqb-false (length (masks (c .before .before .loop .left))) 0 (sym (c .before .is-empty .ensures) ∙ not-true _ (c .if1 .taken)) in
       omega arith
 
-  none : (c : lts.Else1 (calls t) (at t) reads.Post Inv-loop μ-loop) → length (cubes (c .before .before .loop .left)) ≡ 0
+  none : (c : lts.Else1 (calls t) (at t) reads.Post Inv-loop μ-loop) → length (masks (c .before .before .loop .left)) ≡ 0
   none c = eqb-true _ 0 (sym (c .before .is-empty .ensures) ∙ not-false _ (c .if1 .left))
 
   first-requires : lts.Need-first-requires (calls t) (at t) reads.Post Inv-loop μ-loop

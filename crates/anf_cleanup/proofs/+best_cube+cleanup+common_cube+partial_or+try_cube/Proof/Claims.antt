@@ -29,17 +29,16 @@ use Rattle.anf_cleanup.proofs.least_cost.Reads as least-cost-reads
 use Rattle.anf_cleanup.proofs.whole.Reads as whole-reads
 use Rattle.form.proofs.Form.constant.Reads as constant-reads
 use Rattle.form.proofs.Form.count.Reads as count-reads
+use Rattle.form.proofs.Form.first.Reads as first-reads
 use Rattle.form.proofs.Form.is_empty.Reads as is-empty-reads
 use Rattle.form.proofs.Form.is_family.Reads as is-family-reads
 use Rattle.form.proofs.Form.raw_cost.Reads as raw-cost-reads
+use Rattle.form.proofs.Form.rest.Reads as rest-reads
 use Rattle.form.proofs.Form.singles.Reads as singles-reads
 use Rattle.form.proofs.Form.stripped.Reads as stripped-reads
 use Rattle.form.proofs.Form.uncovered.Reads as uncovered-reads
 use Rattle.form.proofs.Form.without.Reads as without-reads
 use Rattle.anf_cleanup.proofs.product_cost.Reads as product-cost-reads
-use Rattle.search.proofs.Cubes.first.Reads as first-reads
-use Rattle.search.proofs.Cubes.is_empty.Reads as is-empty-cubes-reads
-use Rattle.search.proofs.Cubes.rest.Reads as rest-reads
 use Rattle.search.proofs.best_family.Reads as best-family-reads
 use Rattle.search.proofs.is_cube.Reads as is-cube-reads
 use Rattle.search.proofs.shared_cubes.Reads as shared-cubes-reads
@@ -101,8 +100,8 @@ abbrev pub best-cube-calls : ℕ → best-cube-lts.Claims
 best-cube-calls t = (
   shared-cubes-reads.Asked,
   shared-cubes-reads.Learnt,
-  is-empty-cubes-reads.Asked,
-  is-empty-cubes-reads.Learnt,
+  is-empty-reads.Asked,
+  is-empty-reads.Learnt,
   first-reads.Asked,
   first-reads.Learnt,
   try-cube-below t,

@@ -9,7 +9,8 @@ use Rattle.bits.proofs.Bit.{digit-le}
 use Rattle.rules.specs.Form.{literals, rawCost}
 use Rattle.rules.specs.Monomial.{constant}
 use Rattle.form.specs.Masks.{masks}
-use Rattle.form.proofs.Literals.{literals-le, raw-none, raw-some}
+use Rattle.laws.proofs.cost.Cost.{rawCost-none}
+use Rattle.form.proofs.Literals.{literals-le, raw-some}
 use Rattle.form.proofs.Form.raw_cost.Statement.{statement}
 use Rattle.form.proofs.Form.raw_cost.Tie as tie
 
@@ -17,7 +18,7 @@ is-empty-requires : tie.Need-is-empty-requires
 is-empty-requires c κs = search needs
 
 returns : tie.Need-returns
-returns c = sym (raw-none (masks (c .before .before .args .self)) (eqb-true _ 0 (sym (c .before .is-empty .ensures) ∙ c .if1 .taken)))
+returns c = sym (rawCost-none (masks (c .before .before .args .self)) (eqb-true _ 0 (sym (c .before .is-empty .ensures) ∙ c .if1 .taken)))
 
 literals-requires : tie.Need-literals-requires
 literals-requires c κs = search needs

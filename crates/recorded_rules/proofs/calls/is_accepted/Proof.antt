@@ -2,8 +2,7 @@
 use mathlib.Core.Path.{ap, ap₂, _∙_}
 use borrow.Author.Needs.{needs}
 use Rattle.comparison.specs.Outcome.{sameOutcome}
-use Rattle.recorded_rules.specs.Answers.{examinedOf}
-use Rattle.recorded_rules.proofs.Answers.{examined-told}
+use Rattle.recorded.specs.Results.{numberOf}
 use Rattle.recorded_rules.proofs.calls.is_accepted.Statement.{statement}
 use Rattle.recorded_rules.proofs.calls.is_accepted.Tie as tie
 
@@ -12,7 +11,7 @@ returns c =
     let said = c .before .before in
     let call = said .before .examine in
     c .is-same .ensures
-    ∙ ap₂ sameOutcome (said .examined .ensures ∙ examined-told (call .result) ∙ ap examinedOf (call .ensures)) (c .before .given .ensures)
+    ∙ ap₂ sameOutcome (said .examined .ensures ∙ ap numberOf (call .ensures)) (c .before .given .ensures)
 
 pub is-accepted-spec : {M : Type 1} → statement M
 is-accepted-spec =
