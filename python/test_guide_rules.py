@@ -74,6 +74,17 @@ class Rules(unittest.TestCase):
         self.assertEqual(show(guide_rules.compile(6, "0" * 64).expression), "CO0")
         self.refused(1, 0, guide_rules.compile, 7, "0" * 128)
 
+    def test_raw_cost(self):
+        # By hand: the masks of n flags have n * 2^(n - 1) flags in all. With all terms that is a cost of twice this number and of 1 more.
+        for flags in range(7):
+            self.assertEqual(guide_rules.raw_cost(flags, [(1 << (1 << flags)) - 1]), flags * (1 << flags) + 1)
+        # One term alone: 2k - 1 for k flags, 1 for the constant; and with the constant beside it 2 more.
+        for mask in range(1, 64):
+            self.assertEqual(guide_rules.raw_cost(6, [1 << mask]), 2 * bin(mask).count("1") - 1)
+            self.assertEqual(guide_rules.raw_cost(6, [1 << mask | 1]), 2 * bin(mask).count("1") + 1)
+        self.assertEqual(guide_rules.raw_cost(6, [1]), 1)
+        self.assertEqual(guide_rules.raw_cost(6, [0]), 1)
+
     def test_listing(self):
         self.assertEqual(guide_rules.listing(3, [30]), (0, [1, 2, 4, 3]))
         # word 255 has every bit below 8

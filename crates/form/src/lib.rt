@@ -153,7 +153,8 @@ impl Form {
             + 4 * mask_words::ones(self.word & 0xfee8_e880_e880_8000)
     }
 
-    // The cost of the raw form: twice its literals and its constant, less one.
+    // The cost of the raw form, in closed form, because the cleanup asks for it of every form: twice the literals and twice the constant, less one.
+    // What raw costing adds up term by term (`anf_form`) is the same number.
     pub fn raw_cost(self) -> usize
         ensures { λ r. ⌜ r ≡ raw.rawCost (masks self) ⌝ }
     {
