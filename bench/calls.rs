@@ -1,5 +1,5 @@
 //! The library's calls over slices: the functions of include/guide_rules.h, each with an answer block of its own. A call gives the refusal's number, 0
-//! for none; `value`, `evaluate_stars` and `raw` give the result. It rests on the static library `guide_rules`.
+//! for none; `value`, `evaluate_stars` and `raw_cost` give the result. It rests on the static library `guide_rules`.
 
 #[link(name = "guide_rules", kind = "static")]
 extern "C" {
@@ -20,7 +20,7 @@ fn answered(call: impl FnOnce(*mut u64, u64) -> u64) -> u64 {
     call(answer.as_mut_ptr(), 4)
 }
 
-/// The first result; a refusal, which no expression of the benchmark has, stops the run.
+/// The first result; a refusal, which no input of the benchmark has, stops the run.
 fn given(call: impl FnOnce(*mut u64, u64) -> u64) -> u64 {
     let mut answer = [0u64; 4];
     assert_eq!(call(answer.as_mut_ptr(), 4), 0);
@@ -39,12 +39,8 @@ pub fn listing(flags: usize, words: &[u64], out: &mut [u32]) -> u64 {
     answered(|a, k| unsafe { rule_listing(flags as u64, words.as_ptr(), words.len() as u64, out.as_mut_ptr(), out.len() as u64, a, k) })
 }
 
-pub fn raw_cost(flags: usize, words: &[u64]) -> u64 {
-    answered(|a, k| unsafe { rule_raw_cost(flags as u64, words.as_ptr(), words.len() as u64, a, k) })
-}
-
 /// The cost.
-pub fn raw(flags: usize, words: &[u64]) -> u64 {
+pub fn raw_cost(flags: usize, words: &[u64]) -> u64 {
     given(|a, k| unsafe { rule_raw_cost(flags as u64, words.as_ptr(), words.len() as u64, a, k) })
 }
 

@@ -21,8 +21,9 @@ fn row(n: usize, random: &mut Random) {
     let inputs: Vec<PackedAnf> = (0..60).map(|_| compute_anf(&table(n, "random", random), n as u32)).collect();
     let forms: Vec<AnfForm> = inputs.iter().map(|c| AnfForm::from_anf_coeffs(c, n as u32)).collect();
     for (coefficients, form) in inputs.iter().zip(&forms) {
-        let cost = u64::from(sum(form));
-        assert_eq!((cost, calls::raw(n, coefficients.words())), (u64::from(anf_expr_cost(&emit_raw_anf(form))), cost));
+        let cost = anf_expr_cost(&emit_raw_anf(form));
+        assert_eq!(sum(form), cost, "the sum that stands here is not the original's raw cost");
+        assert_eq!(calls::raw_cost(n, coefficients.words()), u64::from(cost), "the library's raw cost is not the original's");
     }
     let ours = |i: usize| {
         black_box(calls::raw_cost(n, black_box(inputs[i].words())));
@@ -35,6 +36,7 @@ fn row(n: usize, random: &mut Random) {
     };
     let repeat = 400;
     let (whole, call) = measure(inputs.len(), repeat, listed, ours);
+    // The library's call stands between two sums, as it does between two lists; its time is taken from there.
     let (alone, _) = measure(inputs.len(), repeat, added, ours);
     println!(
         "| {n} | {:.1} | {:.1} | {:.1} | {:.1} | {:.1} |",

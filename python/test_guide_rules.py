@@ -75,7 +75,7 @@ class Rules(unittest.TestCase):
         self.refused(1, 0, guide_rules.compile, 7, "0" * 128)
 
     def test_raw_cost(self):
-        # By hand: the masks of n flags have n * 2^(n - 1) flags in all. With all terms that is a cost of twice this number and of 1 more.
+        # By hand: the masks of n flags have n * 2^(n - 1) flags in all, so with every coefficient 1 the raw cost is twice that, plus 1.
         for flags in range(7):
             self.assertEqual(guide_rules.raw_cost(flags, [(1 << (1 << flags)) - 1]), flags * (1 << flags) + 1)
         # One term alone: 2k - 1 for k flags, 1 for the constant; and with the constant beside it 2 more.

@@ -1,4 +1,4 @@
 pub mod Held
 pub mod Listed
-pub mod Joined
+pub mod Bulk
 pub mod Injective

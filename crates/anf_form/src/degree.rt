@@ -1,6 +1,6 @@
-// Monomials degree by degree. The coefficients of one word are those of a form of six flags, and the flags above these are the word's index: a mask
-// of degree d in word i is one of degree d - ones(i) in that form. So each set coefficient is visited once.
-use form::Form;
+// Monomials degree by degree. The flags of a mask above the six of its word's form are the word's index: a mask of degree d in word i is one of
+// degree d - ones(i) in that form. So each set coefficient is visited once. It rests on the forms of the words (`words`).
+use crate::words::form_at;
 ghost use mathlib.Core.List.{map};
 ghost use mathlib.Core.Path.{_≡_};
 ghost use Prim.Native.Nat.{_+_, _*_, _^_, _≤_, _<_};
@@ -10,29 +10,8 @@ ghost use Rattle.bits.specs.Range.{Below};
 ghost use Rattle.bits.specs.Stored.{Room, Stored};
 ghost use Rattle.rules.specs.Limits.{formFlags};
 ghost use Rattle.rules.specs.Monomial.{monomials, ordered};
-ghost use Rattle.form.specs.Masks.{masks};
 ghost use Rattle.mask_words.specs.inner.Degree.{ofDegree};
-ghost use Rattle.anf_form.specs.Inner.{held, block, ofBlock};
-
-// The coefficients of word i, as a form of six flags.
-pub fn form_at(i: usize, coefficients: &[u64]) -> Form
-    requires { ⌜ i < length (now coefficients) ⌝ }
-    ensures { λ r. ⌜ masks r ≡ block i (now (coefficients .entry)) ⌝ }
-{
-    Form::of_coefficients(coefficients[i])
-}
-
-// How many coefficients are 1 in the first `words` words.
-pub fn count(words: usize, coefficients: &[u64]) -> usize
-    requires { ⌜ (words ≤ length (now coefficients)) × (words ≤ 1024) ⌝ }
-    ensures { λ r. ⌜ r ≡ length (held words (now (coefficients .entry))) ⌝ }
-{
-    let mut total = 0;
-    for i in 0..words {
-        total = total + form_at(i, coefficients).size();
-    }
-    total
-}
+ghost use Rattle.anf_form.specs.Inner.{held, ofBlock};
 
 // All monomials, by degree from 1 to `flags`, then by mask.
 pub fn list(flags: usize, words: usize, coefficients: &[u64], out: &mut [u32])

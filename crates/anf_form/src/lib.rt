@@ -1,7 +1,8 @@
 // The monomials of a form in their order and its raw cost, after `AnfForm::from_anf_coeffs` and `raw_anf_cost` of `anf_cleanup.rs`. It rests on
 // `form` and on `packed_anf`.
 mod degree;
-mod terms;
+mod mask_order;
+mod words;
 
 use rules::FORM_FLAGS;
 use rules::RULE_FLAGS;
@@ -58,7 +59,7 @@ pub fn from_anf_coeffs(flags: usize, coefficients: &[u64], out: &mut [u32]) -> L
         });
     }
     let constant = packed_anf::get(coefficients, 0);
-    let count = degree::count(words, coefficients) - (constant as usize);
+    let count = words::count(words, coefficients) - (constant as usize);
     if out.len() < count {
         return Listing::Refused(Refusal {
             number: SHORT_OUTPUT,
@@ -95,5 +96,5 @@ pub fn raw_anf_cost(flags: usize, coefficients: &[u64]) -> RawCost
             place: 0,
         });
     }
-    RawCost::Cost(terms::raw_cost(words, coefficients))
+    RawCost::Cost(mask_order::raw_cost(words, coefficients))
 }

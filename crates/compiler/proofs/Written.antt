@@ -28,7 +28,7 @@ use Rattle.laws.proofs.calls.Outcome.{front-written}
 use Rattle.laws.proofs.cost.Bytes.{byte-limit}
 use Rattle.laws.proofs.cost.Fits.{below-form}
 use Rattle.laws.proofs.cost.Size.{size-cleanup, rawCost-limit}
-use Rattle.laws.proofs.value.Compiled.{ascending-form}
+use Rattle.laws.proofs.form.Covered.{ascending-form}
 use Rattle.anf_cleanup.specs.Plan.{Planned}
 use Rattle.anf_cleanup.specs.declared.Plan.{Plan}
 use Rattle.postfix.specs.Written.{Writes}

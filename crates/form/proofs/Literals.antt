@@ -3,7 +3,7 @@
 --   digitWord j          == the word whose bit m is binary digit j of the count of ones of m, for j below 3 and m below 64
 --   literals-digits      == literals are counted digit by digit
 --   literals-le          == they are few
---   raw-some             == the raw cost of some mask
+--   raw-some             == the raw cost of a form that has a mask
 use mathlib.Core.Bool.{Bool, true}
 use mathlib.Core.List.{[], _∷_}
 use mathlib.Core.Path.{_≡_, refl, sym, ap, _∙_}

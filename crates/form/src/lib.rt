@@ -1,5 +1,6 @@
 // A form of at most six flags by value: one word, whose bit m is the mask m and whose bit 0 is the constant. Whoever asks a form these questions need
-// not look at its word. It rests on `mask_words`.
+// not look at its word. Any set of masks is such a word; the cubes that a search tries are one too, walked by `first` and `rest`. It rests on
+// `mask_words`.
 use mask_words::Lookup;
 ghost use mathlib.Core.Bool.{not};
 ghost use mathlib.Core.List.{[], _∷_, map};
@@ -153,8 +154,8 @@ impl Form {
             + 4 * mask_words::ones(self.word & 0xfee8_e880_e880_8000)
     }
 
-    // The cost of the raw form, in closed form, because the cleanup asks for it of every form: twice the literals and twice the constant, less one.
-    // What raw costing adds up term by term (`anf_form`) is the same number.
+    // The raw form's cost by a formula, because the cleanup asks for it at every step: twice the literals and twice the constant, less one. What raw
+    // costing adds up term by term (`anf_form`) is the same number.
     pub fn raw_cost(self) -> usize
         ensures { λ r. ⌜ r ≡ raw.rawCost (masks self) ⌝ }
     {

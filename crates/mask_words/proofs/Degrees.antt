@@ -26,8 +26,8 @@ use Rattle.bits.proofs.Truth.{and-true-l, and-true-r, and-intro, or-split, bool
 use Rattle.bits.proofs.Mask.{ones-pos}
 use Rattle.bits.proofs.Range.{keep-keep, keep-ext, keep-none, mem-all, mem-head, mem-tail, mem-append, mem-keep}
 use Rattle.bits.proofs.Ascending.{ascending-keep, below-keep, below-mem}
-use Rattle.rules.specs.Monomial.{constant, monomials, precedes, ordered}
-use Rattle.laws.proofs.form.Covered.{on, form-split, monomial-mem}
+use Rattle.rules.specs.Monomial.{constant, monomials, on, precedes, ordered}
+use Rattle.laws.proofs.form.Covered.{form-split, monomial-mem}
 use Rattle.laws.proofs.form.Ordered.{precedes-less, precedes-equal, Follows, Sorted, ordered-unique}
 
 -- ---- sorted lists, joined

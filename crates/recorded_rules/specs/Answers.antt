@@ -1,10 +1,8 @@
--- The answers of the compiler in numbers, and raw costing as it is asked about a table. The answers of the examiner and of raw costing are one number
--- (recorded, Results).
+-- The answers of the compiler in numbers. Those of the examiner and of raw costing are one number (recorded, Results).
 --   compiledOf o     == of the compiler's outcome on paper: cost, raw cost, number of records and number of bytes, or the refusal
 --   bytesAfter b o   == what a lent buffer that held b holds after it
 --   compiledBy a     == of an answer
---   rawCosted n t    == raw costing of what the transform of the table t leaves in a buffer of one word, which held 0
-use mathlib.Core.List.{List, [], _∷_}
+use mathlib.Core.List.{List}
 use Prim.Native.Nat.{ℕ}
 use lib.ListN.{length}
 use Rattle.rules.specs.Calls as paper
@@ -26,6 +24,3 @@ bytesAfter b o = left b (bytesOf o)
 abbrev pub compiledBy : Compilation → Outcome
 compiledBy (compilation.Written e) = results (e .cost) (e .raw) (e .records) (e .bytes)
 compiledBy (compilation.Refused r) = refusal (r .number) (r .place)
-
-unfoldable pub rawCosted : ℕ → List ℕ → result.Outcome ℕ
-rawCosted n t = paper.rawCosting n (left (0 ∷ []) (paper.transform n t 1))

@@ -18,7 +18,8 @@ ghost use Rattle.examiner.specs.Answers.{examinationOf};
 ghost use Rattle.comparison.specs.Called.{comesTo};
 ghost use Rattle.comparison.specs.Outcome.{results, sameOutcome};
 ghost use Rattle.recorded.specs.Results.{numberOf};
-ghost use Rattle.recorded_rules.specs.Answers.{compiledOf, compiledBy, bytesAfter, rawCosted};
+ghost use Rattle.recorded_rules.specs.Answers.{compiledOf, compiledBy, bytesAfter};
+ghost use Rattle.recorded_rules.specs.Rule.{tableRawCosting};
 
 // Fills a buffer before a call, so that a change past the result, or after a refusal, shows.
 pub const PATTERN: u8 = 0xA5;
@@ -74,9 +75,9 @@ fn costed(answer: RawCost) -> Outcome
     }
 }
 
-// The coefficients of a rule's table are one word.
+// The coefficients of a rule's table are one word. Where the transform refuses, the word stays 0; the compiler then refuses too, so the rule differs.
 pub fn costs_raw(flags: usize, table: &[u64], raw: usize) -> bool
-    ensures { λ r. ⌜ r ≡ sameOutcome (numberOf (rawCosted flags (now (table .entry)))) (results raw 0 0 0) ⌝ }
+    ensures { λ r. ⌜ r ≡ sameOutcome (numberOf (tableRawCosting flags (now (table .entry)))) (results raw 0 0 0) ⌝ }
 {
     let mut words = [0u64; 1];
     compute_anf(flags, table, &mut words);

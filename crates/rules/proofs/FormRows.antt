@@ -1,21 +1,17 @@
 -- Rows of the parts that the cleanup is put together from, computed with the definitions: products and chains, the balanced fold, raw costs,
--- and the tests and savings of each rule. The values are read from the documents' sentences, which the comments quote; nothing here came from a
+-- and the tests and savings of each rule. The values are read from document 01's sentences, which the comments quote; nothing here came from a
 -- program.
 use mathlib.Core.Bool.{Bool, true, false, not, _&&_}
 use mathlib.Core.List.{List, [], _∷_}
 use Prim.Native.Nat.{_-_}
 use Prim.Native.String.{String}
 use lib.Dec.{T, eqb}
-use Rattle.bits.specs.Bit.{bit}
 use Rattle.bits.specs.Range.{same}
-use Rattle.rules.specs.Calls.{listed, terms, rawCosting}
 use Rattle.rules.specs.Cleanup.{family, atop, greatest, singles, isFamily, isPartial, bestFamily, covered, stripped, isCube}
 use Rattle.rules.specs.Cleanup.{partialOr, cubeSaving, bestCube, cubeAt, commonCube, absorption, cheaper, cleanup}
-use Rattle.rules.specs.Coefficient.{packed}
 use Rattle.rules.specs.Form.{flags, cube, orChain, folded, rawForm, termCost, rawCost, literals}
-use Rattle.rules.specs.Monomial.{form}
 use Rattle.rules.specs.Tree.{Tree, VA, AN, NO}
-use Rattle.rules.proofs.Answers.{isNumber, isTree}
+use Rattle.rules.proofs.Answers.{isTree}
 use Rattle.rules.proofs.Computing.{computing}
 
 -- the candidates of a rule: one or none
@@ -85,27 +81,6 @@ pub raw-cost-rows :
     )
 unfolding computing
 raw-cost-rows = tt
-
--- Request 3: "Add up the same terms over the coefficient word, lowest mask first. For every n and word the whole sum must equal the one over the
--- sorted list.": of `01111000`, whose coefficient word is 30 and whose list is 1, 2, 4, 3, both are 1 + 1 + 3 + 1 and three joins; with constant 1
--- both are 2 more. Beside the word 30 of three flags, the masks 3 and 64 of seven, which stand in two words.
-pub mask-order-rows :
-    T (
-    same (form 3 (bit 30)) (1 ∷ 2 ∷ 3 ∷ 4 ∷ [])
-    && same (terms (listed (form 3 (bit 30)))) (1 ∷ 2 ∷ 4 ∷ 3 ∷ [])
-    && same (terms (listed (form 3 (bit 31)))) (0 ∷ 1 ∷ 2 ∷ 4 ∷ 3 ∷ [])
-    && same (terms (listed (form 3 (bit 0)))) []
-    && isNumber 9 (rawCosting 3 (30 ∷ []))
-    && eqb (rawCost (terms (listed (form 3 (bit 30))))) 9
-    && isNumber 11 (rawCosting 3 (31 ∷ []))
-    && eqb (rawCost (terms (listed (form 3 (bit 31))))) 11
-    && same (form 7 (packed (8 ∷ 1 ∷ []))) (3 ∷ 64 ∷ [])
-    && same (terms (listed (form 7 (packed (8 ∷ 1 ∷ []))))) (64 ∷ 3 ∷ [])
-    && eqb (rawCost (form 7 (packed (8 ∷ 1 ∷ [])))) 5
-    && eqb (rawCost (terms (listed (form 7 (packed (8 ∷ 1 ∷ [])))))) 5
-    )
-unfolding computing isNumber
-mask-order-rows = tt
 
 -- "total literals": the flags of all monomials
 pub literal-rows : T (eqb (literals []) 0 && eqb (literals (0 ∷ [])) 0 && eqb (literals (0 ∷ 1 ∷ 3 ∷ 7 ∷ [])) 6)

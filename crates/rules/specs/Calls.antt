@@ -27,7 +27,7 @@ use Rattle.rules.specs.Form.{rawCost}
 use Rattle.rules.specs.Limits.{formFlags, ruleFlags, tooManyFlags, shortTable, shortCoefficients, strayCoefficient, shortOutput}
 use Rattle.rules.specs.Limits.{badSetting, shortStars, differs, tooCostly}
 use Rattle.rules.specs.Machine.{made}
-use Rattle.rules.specs.Monomial.{form, constant, monomials, ordered}
+use Rattle.rules.specs.Monomial.{form, constant, monomials, on, ordered}
 use Rattle.rules.specs.Outcome.{Outcome, gives, refuses, refuse, _then_}
 use Rattle.rules.specs.Record.{Found, recordAt}
 use Rattle.rules.specs.Stars.{starValues}
@@ -74,6 +74,7 @@ pub record Listing : Type 0 where
   pub constant : Bool
   pub masks : List ℕ
 
+-- "the constant, and all monomials by (count of ones, then mask), each one time"
 unfoldable pub listed : List ℕ → Listing
 listed l = record { constant = constant l; masks = ordered (monomials l) }
 
@@ -83,13 +84,13 @@ listing n ws room =
     withCoefficients formFlags n ws
     (withRoom room (listed (form n (packed ws)) .masks) (gives (listed (form n (packed ws)))))
 
--- "The raw form's terms are constant 1 first, then monomials in list order": those of a listing; the mask 0 stands for the constant 1
+-- "The raw form's terms are constant 1 first, then monomials in list order": those of a listing
 unfoldable pub terms : Listing → List ℕ
-terms a = elim (a .constant) [ true ↦ 0 ∷ a .masks | false ↦ a .masks ]
+terms a = on (a .constant) (a .masks)
 
 -- "raw costing takes n and coefficients"; "Raw cost equals the raw form's `anf_expr_cost`." Request 3: "Add up the same terms over the coefficient
--- word, lowest mask first.": a form's masks ascend. "For every n and word the whole sum must equal the one over the sorted list.", which is the raw
--- cost of `terms`.
+-- word, lowest mask first.": a form's masks ascend. "For every n and word the whole sum must equal the one over the sorted list.": that is
+-- `rawCost (terms (listed ..))`, and `rawCost-terms` says so (laws, MaskOrder).
 unfoldable pub rawCosting : ℕ → List ℕ → Outcome ℕ
 rawCosting n ws = withCoefficients ruleFlags n ws (gives (rawCost (form n (packed ws))))
 

@@ -1,10 +1,12 @@
 -- What a form is written as before any cleanup, and the parts that the cleanup puts together.
 --   flags m          == the flags of the mask m, ascending
+--   chain op e ts    == the trees ts joined by op, nested to the left; e where there is none
 --   cube m           == the product of the flags of m as a tree; of no flag it is the constant 1
 --   orChain m        == the OR of the flags of m as a tree; of no flag it is the constant 0
---   folded ts        == the balanced fold of the terms ts
+--   folded ts        == the balanced fold of the terms ts; halves g ts is one turn of it
 --   rawForm l        == the raw form of the form l
---   rawCost l        == its cost, counted from the masks alone
+--   termCost m       == the cost of the term of the mask m
+--   rawCost l        == the raw form's cost, added up over the masks l in their order
 --   literals l       == the total number of flags in the masks of l
 use mathlib.Core.Bool.{true, false}
 use mathlib.Core.List.{List, [], _∷_, map, foldl}
@@ -58,5 +60,6 @@ unfoldable pub rawCost : List ℕ → ℕ
 rawCost [] = 1
 rawCost (m ∷ l) = total termCost (m ∷ l) + length l
 
+-- "total literals"
 abbrev pub literals : List ℕ → ℕ
 literals l = total ones l

@@ -3,8 +3,9 @@
 --   form n c             == the form whose coefficients are c
 --   constant l           == the form's constant
 --   monomials l          == its monomials, ascending
+--   on b l               == the masks l, and first, where the constant b is 1, the mask 0
 --   precedes a b         == mask a comes before mask b in the list of monomials
---   ordered l            == the masks of l in that order
+--   ordered l            == the masks of l in that order; insert a l puts the mask a where it belongs
 use mathlib.Core.Bool.{Bool, true, false, _&&_, _||_}
 use mathlib.Core.List.{List, [], _∷_}
 use Prim.Native.Nat.{ℕ, _^_}
@@ -12,6 +13,7 @@ use lib.Dec.{ltb, eqb}
 use lib.Count.{ones}
 use Rattle.bits.specs.Range.{upto, keep, mem}
 
+-- the masks of n flags whose coefficient is 1
 unfoldable pub form : ℕ → (ℕ → Bool) → List ℕ
 form n c = keep c (upto (2 ^ n))
 
@@ -22,6 +24,11 @@ constant l = mem 0 l
 -- "A monomial is a nonzero mask of flags whose coefficient is 1"
 abbrev pub monomials : List ℕ → List ℕ
 monomials l = keep (λ m. ltb 0 m) l
+
+-- "constant 1 first, then monomials in list order"
+abbrev pub on : Bool → List ℕ → List ℕ
+on true l = 0 ∷ l
+on false l = l
 
 -- "by (count of ones, then mask)"
 unfoldable pub precedes : ℕ → ℕ → Bool

@@ -14,7 +14,7 @@ use Rattle.anf_form.proofs.raw_anf_cost.Tie as tie
 
 returns : tie.Need-returns
 unfolding rawCosting
-returns c = sym (coefficients-flags 6 _ _ _ (c .if1 .taken))
+returns c = sym (coefficients-flags 6 (c .before .before .args .flags) _ _ (omega arith))
 
 word-count-requires : tie.Need-word-count-requires
 word-count-requires c κs = search needs

@@ -3,16 +3,18 @@
 -- It rests on the definitions of rules' Calls and on steps of outcomes (Outcome).
 --   table-flags, -short, -complete               == rows 1 and 2, and past them
 --   coefficients-flags, -short, -stray, -clean   == rows 1, 3 and 4, and past them
---   coefficients-then                            == a step after these rows; a flag count that two limits allow
+--   coefficients-then                            == a step after these rows is a step after what comes behind them
+--   coefficients-limit                           == a lower limit of flags is one row more
 --   room-short, room-enough                      == row 5, and past it
 --   stars-many, -short, -enough                  == rows 1 and 14, and past them
-use mathlib.Core.Bool.{true, false}
+use mathlib.Core.Bool.{Bool, true, false}
 use mathlib.Core.List.{List}
-use mathlib.Core.Path.{_≡_, ap, _∙_}
+use mathlib.Core.Path.{_≡_, refl, ap, _∙_}
 use Prim.Native.Nat.{ℕ, _^_, _≤_, _<_}
+use native.Mathlib.Omega.{arith}
 use lib.Dec.{ltb}
 use lib.ListN.{length}
-use borrow.Author.Tests.{lt-ltb, le-ltb, lt-leb, le-leb}
+use borrow.Author.Tests.{ltb-false, lt-ltb, le-ltb, lt-leb, le-leb}
 use Rattle.rules.specs.Calls.{withTable, withCoefficients, withRoom, evaluateStars}
 use Rattle.rules.specs.Coefficient.{wordCount, stray}
 use Rattle.rules.specs.Limits.{ruleFlags, tooManyFlags, shortTable, shortCoefficients, strayCoefficient, shortOutput, shortStars}
@@ -54,13 +56,28 @@ module _ {A : Type 0} (limit n : ℕ) (ws : List ℕ) (rest : Outcome A) where
       unfolding withCoefficients
       coefficients-clean e = rw (le-ltb limit n few, le-ltb (length ws) (wordCount n) needed, e)
 
-pub coefficients-then : {A B : Type 0} (limit most n : ℕ) (ws : List ℕ) (rest : Outcome A) (f : A → Outcome B) → n ≤ limit → n ≤ most
-    → (withCoefficients limit n ws rest then f) ≡ withCoefficients most n ws (rest then f)
+pub coefficients-then : {A B : Type 0} (limit n : ℕ) (ws : List ℕ) (rest : Outcome A) (f : A → Outcome B)
+    → (withCoefficients limit n ws rest then f) ≡ withCoefficients limit n ws (rest then f)
 unfolding withCoefficients
-coefficients-then limit most n ws rest f few h =
-    rw (le-ltb limit n few, le-ltb most n h)
-    (refuse-then (ltb (length ws) (wordCount n)) shortCoefficients 0 (refuse (stray n ws) strayCoefficient 0 rest) f
-    ∙ ap (refuse (ltb (length ws) (wordCount n)) shortCoefficients 0) (refuse-then (stray n ws) strayCoefficient 0 rest f))
+coefficients-then limit n ws rest f =
+    let many = ltb limit n in
+    let short = ltb (length ws) (wordCount n) in
+    refuse-then many tooManyFlags 0 (refuse short shortCoefficients 0 (refuse (stray n ws) strayCoefficient 0 rest)) f
+    ∙ ap (refuse many tooManyFlags 0)
+    (refuse-then short shortCoefficients 0 (refuse (stray n ws) strayCoefficient 0 rest) f
+    ∙ ap (refuse short shortCoefficients 0) (refuse-then (stray n ws) strayCoefficient 0 rest f))
+
+pub coefficients-limit : {A : Type 0} (limit most n : ℕ) (ws : List ℕ) (rest : Outcome A) → limit ≤ most
+    → withCoefficients limit n ws rest ≡ refuse (ltb limit n) tooManyFlags 0 (withCoefficients most n ws rest)
+unfolding withCoefficients
+coefficients-limit {A} limit most n ws rest h = go (ltb limit n) refl
+  where
+    behind : Outcome A
+    behind = refuse (ltb (length ws) (wordCount n)) shortCoefficients 0 (refuse (stray n ws) strayCoefficient 0 rest)
+
+    go : (b : Bool) → ltb limit n ≡ b → refuse b tooManyFlags 0 behind ≡ refuse b tooManyFlags 0 (refuse (ltb most n) tooManyFlags 0 behind)
+    go true e = refl
+    go false e = let few = ltb-false limit n e in rw (le-ltb most n (omega arith))
 
 module _ {A : Type 0} (room : ℕ) (l : List ℕ) (rest : Outcome A) where
   pub room-short : room < length l → withRoom room l rest ≡ refuses shortOutput (length l)

@@ -1,9 +1,9 @@
--- What a given result tells of the rows and steps before it, and what a buffer holds after it. It rests on the two constructors of an outcome and on
--- the laws of stores and of lists with an entry for each number (bits, Stores and Tabulated).
+-- What a given result tells of the rows and steps before it, rows and steps exchanged, and what a buffer holds after a call. It rests on the two
+-- constructors of an outcome and on the laws of stores and of lists with an entry for each number (bits, Stores and Tabulated).
 --   gives-same       == results of one outcome are equal
 --   not-both         == no outcome is a result and a refusal
 --   refuse-gives     == a row that was passed does not hold, and the rest gave the result
---   refuse-then      == a step after a row is a step after what comes behind the row
+--   refuse-then      == a step after a row is a step after what comes behind it
 --   then-gives       == each of two steps gave a result
 --   then-refuses     == where the second step only computes, the first refused
 --   then-ext         == steps that agree

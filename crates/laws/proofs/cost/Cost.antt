@@ -6,8 +6,10 @@
 --   termCost-suc, termCost-pos                     == the cost of a monomial
 --   count-chain                                    == a chain by an operation that counts 1
 --   weight m, bulk l                               == a mask's cost with 1 for joining it, and that of all masks of l
---   bulk-none, bulk-some                           == no mask weighs nothing, and some weigh something
---   rawCost-none, rawCost-bulk, rawCost-ordered    == raw cost of no mask, and by weights; the order of the masks does not matter
+--   bulk-none                                      == the bulk of a list without masks is 0
+--   rawCost-bulk                                   == with some mask, raw cost is one less than the bulk
+--   rawCost-some, rawCost-none                     == the same where the bulk is above 0; where it is 0, raw cost is 1
+--   rawCost-ordered                                == the order of the masks does not matter
 --   count-cube, count-folded, count-rawForm        == of products, balanced folds and raw forms, for any count
 --   cost-cube, size-cube, cost-rawForm, size-rawForm == the same of each count
 --   size-orChain, cost-orChain, cost-orChain-few   == of OR chains
@@ -126,25 +128,25 @@ weight m = suc (termCost m)
 abbrev pub bulk : List ℕ → ℕ
 bulk l = total weight l
 
-pub bulk-none : (l : List ℕ) → bulk l ≡ 0 → length l ≡ 0
+pub bulk-none : (l : List ℕ) → length l ≡ 0 → bulk l ≡ 0
 unfolding sum
 bulk-none [] e = refl
 bulk-none (m ∷ l) e = absurd (omega arith)
-
-pub bulk-some : (l : List ℕ) → 0 < bulk l → 0 < length l
-unfolding sum
-bulk-some [] p = absurd (omega arith)
-bulk-some (m ∷ l) p = omega arith
-
-pub rawCost-none : (l : List ℕ) → length l ≡ 0 → rawCost l ≡ 1
-unfolding rawCost
-rawCost-none [] e = refl
-rawCost-none (m ∷ l) e = absurd (omega arith)
 
 pub rawCost-bulk : (l : List ℕ) → 0 < length l → suc (rawCost l) ≡ bulk l
 unfolding rawCost
 rawCost-bulk [] p = absurd (omega arith)
 rawCost-bulk (m ∷ l) p = omega (arith, total-suc termCost (m ∷ l))
+
+pub rawCost-some : (l : List ℕ) → 0 < bulk l → suc (rawCost l) ≡ bulk l
+unfolding sum
+rawCost-some [] p = absurd (omega arith)
+rawCost-some (m ∷ l) p = rawCost-bulk (m ∷ l) (omega arith)
+
+pub rawCost-none : (l : List ℕ) → bulk l ≡ 0 → rawCost l ≡ 1
+unfolding rawCost sum
+rawCost-none [] e = refl
+rawCost-none (m ∷ l) e = absurd (omega arith)
 
 pub rawCost-ordered : (l : List ℕ) → rawCost (ordered l) ≡ rawCost l
 unfolding ordered

@@ -1,5 +1,5 @@
 -- What the compiler writes for a table of up to six flags keeps document 01's limits: 385 records and 963 bytes. It rests on the size of the cleaned
--- form (Size), its flags (Mentions), the bytes of a tree (Bytes) and on forms ascending (Compiled).
+-- form (Size), its flags (Mentions), the bytes of a tree (Bytes) and on forms ascending (Covered).
 --   below-form                           == the masks of a form of n flags are below 2^n
 --   size-compiled, cost-compiled         == the size and the cost are at most the raw cost
 --   flags-compiled                       == only the table's flags are mentioned
@@ -20,7 +20,7 @@ use Rattle.rules.specs.Monomial.{form}
 use Rattle.rules.specs.Table.{entry}
 use Rattle.rules.specs.Tree.{cost, size, write, FlagsBelow}
 use Rattle.laws.proofs.cost.Bytes.{byte-limit}
-use Rattle.laws.proofs.value.Compiled.{ascending-form}
+use Rattle.laws.proofs.form.Covered.{ascending-form}
 use Rattle.laws.proofs.cost.Mentions.{flags-cleanup}
 use Rattle.laws.proofs.cost.Size.{size-cleanup, cost-cleanup, rawCost-limit}
 

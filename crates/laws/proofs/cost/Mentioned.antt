@@ -28,9 +28,9 @@ use Rattle.bits.proofs.Union.{bit-union, union-within, union-mem}
 use Rattle.bits.proofs.Truth.{and-true-r}
 use Rattle.rules.specs.Cleanup.{family, atop, singles, covered, stripped, withRest, turn, cleanup}
 use Rattle.rules.specs.Form.{flags, chain, cube, orChain, folded, rawForm, literals}
-use Rattle.rules.specs.Monomial.{constant, monomials, ordered}
+use Rattle.rules.specs.Monomial.{constant, monomials, on, ordered}
 use Rattle.rules.specs.Tree.{Tree, CO, VA, AN, OR, XO, NO, mentioned}
-use Rattle.laws.proofs.form.Covered.{on, form-split, monomial-mem, covered-keep, covered-within, ascending-stripped, keep-family}
+use Rattle.laws.proofs.form.Covered.{form-split, monomial-mem, covered-keep, covered-within, ascending-stripped, keep-family}
 use Rattle.laws.proofs.form.Family.{mem-family, family-own}
 use Rattle.laws.proofs.form.Literals.{literals-stripped, literals-uncovered, literals-without}
 use Rattle.laws.proofs.form.Ordered.{sum-ordered}

@@ -27,11 +27,11 @@ use Rattle.bits.proofs.Total.{total-mem, total-two}
 use Rattle.rules.specs.Cleanup.{family, atop, singles, covered, stripped, withRest, turn, cleanup}
 use Rattle.rules.specs.Form.{cube, orChain, rawCost, termCost, literals}
 use Rattle.rules.specs.Limits.{ruleFlags, recordLimit}
-use Rattle.rules.specs.Monomial.{constant, monomials}
+use Rattle.rules.specs.Monomial.{constant, monomials, on}
 use Rattle.rules.specs.Tree.{Tree, CO, AN, XO, NO, cost, size}
 use Rattle.laws.proofs.cost.Cost.{cost-size, termCost-suc, termCost-pos, size-cube, size-orChain, size-rawForm}
 use Rattle.laws.proofs.cost.Cost.{weight, bulk, rawCost-bulk, rawCost-pos, bulk-literals}
-use Rattle.laws.proofs.form.Covered.{on, form-split, pair-order, covered-keep, ascending-covered, ascending-stripped, keep-family}
+use Rattle.laws.proofs.form.Covered.{form-split, pair-order, covered-keep, ascending-covered, ascending-stripped, keep-family}
 use Rattle.laws.proofs.form.Family.{family-own, family-other}
 use Rattle.laws.proofs.form.Literals.{literals-covered}
 use Rattle.laws.proofs.value.Turn.{Partial, Common, turn-ind}

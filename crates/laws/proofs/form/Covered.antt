@@ -1,6 +1,7 @@
 -- The parts of a form: its constant and its monomials, what a cube covers and what is left, and a family in it.
 -- It rests on the laws of masks, ascending lists and sums (bits), and on the family's members (Family).
---   on b l, form-split, parity-constant  == a form is its constant on its monomials
+--   ascending-form                       == a form ascends
+--   form-split, parity-constant          == it is its constant on its monomials
 --   monomial-mem, pair-order             == a monomial is a mask of the form other than 0; two monomials ascend from 1 on
 --   covered-keep, mem-covered, covered-within == the masks that contain a cube
 --   covered-occurs                       == the flags of a cube that covers a monomial occur
@@ -12,7 +13,7 @@ use mathlib.Core.Bool.{Bool, true, false, not, _&&_}
 use mathlib.Core.List.{List, [], _∷_}
 use mathlib.Core.Path.{_≡_, refl, sym, ap, ap₂, subst, _∙_}
 use mathlib.Mathlib.Data.Bool.Basic.{eq-false-of-not-eq-true}
-use Prim.Native.Nat.{ℕ, zero, suc, _-_, _<_}
+use Prim.Native.Nat.{ℕ, zero, suc, _-_, _^_, _<_}
 use native.Mathlib.Nat.{zero-lt-suc}
 use native.Mathlib.Omega.{arith}
 use lib.Bits.{bitAnd}
@@ -20,26 +21,26 @@ use lib.Dec.{ltb}
 use lib.ListN.{length}
 use borrow.Author.Tests.{ltb-true, lt-ltb}
 use Rattle.bits.specs.Bit.{_⊕_, within}
-use Rattle.bits.specs.Range.{keep, all, any, mem, After, Ascending}
+use Rattle.bits.specs.Range.{upto, keep, all, any, mem, After, Ascending}
 use Rattle.bits.specs.Sum.{sum, parity, union}
 use Rattle.bits.proofs.Truth.{and-true-l, and-true-r, and-implied}
 use Rattle.bits.proofs.Mask.{within-le, within-zero, within-trans, within-split}
 use Rattle.bits.proofs.Range.{keep-all, keep-keep, keep-ext, mem-all, mem-keep, mem-head, mem-some, all-mem}
-use Rattle.bits.proofs.Ascending.{after-mem, ascending-keep, ascending-map, ascending-ext}
+use Rattle.bits.proofs.Ascending.{after-mem, ascending-from, ascending-keep, ascending-map, ascending-ext}
 use Rattle.bits.proofs.Sum.{xor-laws, sum-map, sum-ext-mem, sum-split, parity-and}
 use Rattle.bits.proofs.Union.{union-mem}
 use Rattle.rules.specs.Cleanup.{family, covered, stripped}
-use Rattle.rules.specs.Monomial.{constant, monomials}
+use Rattle.rules.specs.Monomial.{form, constant, monomials, on}
 use Rattle.laws.proofs.form.Family.{ascending-family, parity-family}
 
 -- ---- constant and monomials
 
+pub ascending-form : (n : ℕ) (c : ℕ → Bool) → Ascending (form n c)
+unfolding form
+ascending-form n c = ascending-keep c (upto (2 ^ n)) (ascending-from 0 (2 ^ n))
+
 positive : (l : List ℕ) → After 0 l → monomials l ≡ l
 positive l a = keep-all (λ m. ltb 0 m) l (mem-all (λ m. ltb 0 m) l (λ x m. lt-ltb 0 x (after-mem 0 l x a m)))
-
-abbrev pub on : Bool → List ℕ → List ℕ
-on true l = 0 ∷ l
-on false l = l
 
 pub form-split : (l : List ℕ) → Ascending l → l ≡ on (constant l) (monomials l)
 unfolding any keep

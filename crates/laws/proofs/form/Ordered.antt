@@ -4,6 +4,7 @@
 --   sum-ordered, length-ordered, mem-ordered           == sums, the length, the members
 --   precedes-less, precedes-equal, precedes-true       == the order by count of ones, then by mask
 --   precedes-irrefl, precedes-trans, precedes-other    == it is strict, goes on, and holds one way round of two different masks
+--   ordered-on                                         == the constant, as the mask 0, comes before all monomials
 --   Follows a l, Sorted l                              == each mask comes before the next, and a before the first
 --   ordered-sorted, sorted-ext, ordered-unique         == ordered lists are sorted; sorted lists are settled by their members
 use mathlib.Core.Bool.{Bool, true, false, _&&_, _||_, false≢true, true≢false}
@@ -25,7 +26,8 @@ use Rattle.bits.proofs.Range.{mem-head, mem-tail, mem-cons}
 use Rattle.bits.proofs.Ascending.{ascending-tail, after-mem}
 use Rattle.bits.proofs.Rising.{rising-ext}
 use Rattle.bits.proofs.Sum.{Commutes}
-use Rattle.rules.specs.Monomial.{precedes, insert, ordered}
+use Rattle.bits.proofs.Mask.{ones-pos}
+use Rattle.rules.specs.Monomial.{on, precedes, insert, ordered}
 
 -- ---- what does not depend on the order
 
@@ -104,6 +106,20 @@ precedes-other a b h n = elim (decide (ltb (ones a) (ones b))) [
     equal e (inl l) = absurd (true≢false (sym (precedes-equal a b (sym e) (ltb-true a b l)) ∙ h))
     equal e (inr l) = let k = ltb-false a b l in precedes-equal b a e (omega arith)
 
+-- one turn of insert, by the test's value
+abbrev place : Bool → ℕ → ℕ → List ℕ → List ℕ
+place c a b l = elim c [ true ↦ a ∷ b ∷ l | false ↦ b ∷ insert a l ]
+
+insert-zero : (l : List ℕ) → ((m : ℕ) → mem m l ≡ true → 0 < m) → insert 0 l ≡ 0 ∷ l
+unfolding insert ones
+insert-zero [] h = refl
+insert-zero (b ∷ l) h = ap (λ (c : Bool). place c 0 b l) (precedes-less 0 b (ones-pos b (h b (mem-head b l))))
+
+pub ordered-on : (b : Bool) (l : List ℕ) → ((m : ℕ) → mem m l ≡ true → 0 < m) → ordered (on b l) ≡ on b (ordered l)
+unfolding ordered
+ordered-on true l h = insert-zero (ordered l) (λ m e. h m (sym (mem-ordered m l) ∙ e))
+ordered-on false l h = refl
+
 -- ---- sorted lists
 
 abbrev pub Follows : ℕ → List ℕ → Type 0
@@ -113,10 +129,6 @@ Follows a (x ∷ l) = (precedes a x ≡ true) × Follows x l
 abbrev pub Sorted : List ℕ → Type 0
 Sorted [] = Unit
 Sorted (x ∷ l) = Follows x l
-
--- one turn of insert, by the test's value
-abbrev place : Bool → ℕ → ℕ → List ℕ → List ℕ
-place c a b l = elim c [ true ↦ a ∷ b ∷ l | false ↦ b ∷ insert a l ]
 
 other : (a b : ℕ) (l : List ℕ) → mem a (b ∷ l) ≡ false → a ≡ b → ⊥
 other a b l n e = true≢false (sym (mem-head a l) ∙ ap (λ (x : ℕ). mem a (x ∷ l)) e ∙ n)

@@ -1,6 +1,6 @@
 -- What the compiler writes for a table has the table's bit at every setting.
 -- It rests on the value of the cleaned form (Value) and on the exclusive or over subsets (Mobius).
---   ascending-form, parity-form      == a form ascends; its parity of masks within a setting is the exclusive or over subsets
+--   parity-form                      == a form's parity of masks within a setting is the exclusive or over subsets
 --   value-form                       == the cleaned form of coefficients c, at a setting
 --   compiled-table                   == the compiled tree, at a setting
 use mathlib.Core.Bool.{Bool, false, _&&_, and-comm}
@@ -8,9 +8,8 @@ use mathlib.Core.List.{List}
 use mathlib.Core.Path.{_≡_, sym, _∙_}
 use Prim.Native.Nat.{ℕ, _^_, _<_}
 use Rattle.bits.specs.Bit.{_⊕_, within}
-use Rattle.bits.specs.Range.{upto, Ascending}
+use Rattle.bits.specs.Range.{upto}
 use Rattle.bits.specs.Sum.{parity}
-use Rattle.bits.proofs.Ascending.{ascending-from, ascending-keep}
 use Rattle.bits.proofs.Sum.{sum-ext, parity-keep}
 use Rattle.rules.specs.Calls.{tableForm, compiled}
 use Rattle.rules.specs.Cleanup.{cleanup}
@@ -18,14 +17,11 @@ use Rattle.rules.specs.Coefficient.{coefficient}
 use Rattle.rules.specs.Monomial.{form}
 use Rattle.rules.specs.Table.{entry}
 use Rattle.rules.specs.Tree.{value}
+use Rattle.laws.proofs.form.Covered.{ascending-form}
 use Rattle.laws.proofs.transform.Mobius.{coefficient-parity, coefficient-twice}
 use Rattle.laws.proofs.value.Value.{value-cleanup}
 
 module _ (n : ℕ) (c : ℕ → Bool) where
-  pub ascending-form : Ascending (form n c)
-  unfolding form
-  ascending-form = ascending-keep c (upto (2 ^ n)) (ascending-from 0 (2 ^ n))
-
   pub parity-form : (s : ℕ) → parity (λ m. within m s) (form n c) ≡ coefficient n c s
   unfolding form
   parity-form s =
@@ -34,7 +30,7 @@ module _ (n : ℕ) (c : ℕ → Bool) where
       ∙ sym (coefficient-parity n c s)
 
   pub value-form : (s : ℕ) → value (cleanup (form n c)) s ≡ coefficient n c s
-  value-form s = value-cleanup (form n c) ascending-form s ∙ parity-form s
+  value-form s = value-cleanup (form n c) (ascending-form n c) s ∙ parity-form s
 
 pub compiled-table : (n : ℕ) (table : List ℕ) (s : ℕ) → s < 2 ^ n → value (compiled n table) s ≡ entry table s
 unfolding compiled tableForm

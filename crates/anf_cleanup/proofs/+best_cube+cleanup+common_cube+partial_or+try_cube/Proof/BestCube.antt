@@ -1,11 +1,11 @@
 -- `anf_cleanup::best_cube`, a member of the cycle. Its loop's invariant: what is found so far, and the masks left to try, give the best cube (Cubes).
 -- The measure is how many masks are left.
-use mathlib.Core.Path.{_≡_, sym, _∙_}
+use mathlib.Core.Path.{_≡_}
 use Prim.Native.Nat.{ℕ, _<_}
 use native.Mathlib.Omega.{arith}
-use borrow.Author.Tests.{eqb-true, eqb-false, not-true, not-false}
 use lib.ListN.{length}
 use Rattle.form.specs.Masks.{masks}
+use Rattle.form.proofs.Masks.{masks-left, masks-done}
 use Rattle.anf_cleanup.proofs.Cubes.{Searching, search-start, search-turn, search-mask, search-fewer, search-none, search-found}
 use Rattle.anf_cleanup.proofs.best_cube.Reads as reads
 use Rattle.anf_cleanup.proofs.+best_cube+cleanup+common_cube+partial_or+try_cube.Lts-best_cube as lts
@@ -30,12 +30,10 @@ module _ (t : ℕ) where
 
   -- in a turn some mask is left, and after the loop none
   some : (c : lts.Then1 (calls t) (at t) reads.Post Inv-loop μ-loop) → 0 < length (masks (c .before .before .loop .left))
-  some c =
-      let full = eqb-false (length (masks (c .before .before .loop .left))) 0 (sym (c .before .is-empty .ensures) ∙ not-true _ (c .if1 .taken)) in
-      omega arith
+  some c = masks-left (c .before .before .loop .left) (c .before .is-empty .ensures) (c .if1 .taken)
 
   none : (c : lts.Else1 (calls t) (at t) reads.Post Inv-loop μ-loop) → length (masks (c .before .before .loop .left)) ≡ 0
-  none c = eqb-true _ 0 (sym (c .before .is-empty .ensures) ∙ not-false _ (c .if1 .left))
+  none c = masks-done (c .before .before .loop .left) (c .before .is-empty .ensures) (c .if1 .left)
 
   first-requires : lts.Need-first-requires (calls t) (at t) reads.Post Inv-loop μ-loop
   first-requires c κs = some c

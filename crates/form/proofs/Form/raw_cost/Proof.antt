@@ -2,6 +2,7 @@
 use mathlib.Core.Path.{_≡_, sym, _∙_}
 use Prim.Native.Nat.{suc, _+_, _*_}
 use native.Mathlib.Omega.{arith}
+use lib.ListN.{length}
 use borrow.Author.Needs.{needs}
 use borrow.Author.Tests.{eqb-true, eqb-false}
 use Rattle.bits.specs.Bit.{digit}
@@ -9,7 +10,7 @@ use Rattle.bits.proofs.Bit.{digit-le}
 use Rattle.rules.specs.Form.{literals, rawCost}
 use Rattle.rules.specs.Monomial.{constant}
 use Rattle.form.specs.Masks.{masks}
-use Rattle.laws.proofs.cost.Cost.{rawCost-none}
+use Rattle.laws.proofs.cost.Cost.{bulk-none, rawCost-none}
 use Rattle.form.proofs.Literals.{literals-le, raw-some}
 use Rattle.form.proofs.Form.raw_cost.Statement.{statement}
 use Rattle.form.proofs.Form.raw_cost.Tie as tie
@@ -18,7 +19,9 @@ is-empty-requires : tie.Need-is-empty-requires
 is-empty-requires c κs = search needs
 
 returns : tie.Need-returns
-returns c = sym (rawCost-none (masks (c .before .before .args .self)) (eqb-true _ 0 (sym (c .before .is-empty .ensures) ∙ c .if1 .taken)))
+returns c =
+    let l = masks (c .before .before .args .self) in
+    sym (rawCost-none l (bulk-none l (eqb-true (length l) 0 (sym (c .before .is-empty .ensures) ∙ c .if1 .taken))))
 
 literals-requires : tie.Need-literals-requires
 literals-requires c κs = search needs

@@ -1,9 +1,9 @@
--- `anf_form::degree::form_at` meets its contract: the masks of one word are its ones (Held).
+-- `anf_form::words::form_at` meets its contract: the masks of one word are its ones (Held).
 use mathlib.Core.Path.{_∙_}
 use Rattle.anf_form.proofs.Held.{block-is}
 use borrow.Author.Needs.{needs}
-use Rattle.anf_form.proofs.degree.form_at.Statement.{statement}
-use Rattle.anf_form.proofs.degree.form_at.Tie as tie
+use Rattle.anf_form.proofs.words.form_at.Statement.{statement}
+use Rattle.anf_form.proofs.words.form_at.Tie as tie
 
 mul-of-coefficients : tie.Need-mul-of-coefficients
 mul-of-coefficients c = search needs

@@ -1,4 +1,4 @@
--- `anf_form::degree::count` meets its contract. The loop's invariant: so many masks are held by the words passed (Held). The measure is what is left
+-- `anf_form::words::count` meets its contract. The loop's invariant: so many masks are held by the words passed (Held). The measure is what is left
 -- of the words.
 use mathlib.Core.Path.{_≡_, refl, ap}
 use Prim.Native.Nat.{ℕ, _-_, _≤_}
@@ -8,8 +8,8 @@ use lib.ListN.{length}
 use Rattle.bits.specs.Range.{keep, from}
 use Rattle.anf_form.specs.Inner.{held}
 use Rattle.anf_form.proofs.Held.{length-held, held-room}
-use Rattle.anf_form.proofs.degree.count.Statement.{statement}
-use Rattle.anf_form.proofs.degree.count.Tie as tie
+use Rattle.anf_form.proofs.words.count.Statement.{statement}
+use Rattle.anf_form.proofs.words.count.Tie as tie
 
 abbrev Inv-loop : tie.InvT-loop
 Inv-loop words coefficients total₀ i₀ total i = (i ≤ words) × (total ≡ length (held i coefficients))

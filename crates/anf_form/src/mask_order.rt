@@ -1,16 +1,18 @@
 // The raw cost of lent coefficients, after `raw_anf_cost` and `monomial_expr_cost` of `anf_cleanup.rs`. Document 02, request 3: "Add up the same
-// terms over the coefficient word, lowest mask first."; no list of them is made. It rests on `form`, whose masks are walked from the lowest.
-use crate::degree::form_at;
+// terms over the coefficient word, lowest mask first."; no list of them is made. It rests on the forms of the words (`words`), whose masks are walked
+// from the lowest, and on `mask_words`. With at most six flags there is one word; nothing here rests on that.
+use crate::words::form_at;
 use form::Form;
 ghost use mathlib.Core.List.{map};
 ghost use mathlib.Core.Path.{_≡_};
-ghost use Prim.Native.Nat.{_+_, _≤_};
+ghost use Prim.Native.Nat.{suc, _+_, _≤_};
 ghost use lib.ListN.{length};
+ghost use Rattle.bits.specs.Sum.{total};
 ghost use Rattle.rules.specs.Form.{termCost, rawCost};
 ghost use Rattle.form.specs.Masks.{masks};
-ghost use Rattle.anf_form.specs.Inner.{held, joined};
+ghost use Rattle.anf_form.specs.Inner.{held};
 
-// What a term costs: 2k - 1 for a monomial of k flags, and 1 for the constant 1, whose mask is 0.
+// What a term costs: 2k - 1 for a monomial of k flags, and 1 for the constant 1, whose mask is 0. A number has at most 64 ones.
 fn term_cost(mask: usize) -> usize
     ensures { λ r. ⌜ (r ≡ termCost mask) × (r ≤ 127) ⌝ }
 {
@@ -20,10 +22,10 @@ fn term_cost(mask: usize) -> usize
     2 * mask_words::flag_count(mask) - 1
 }
 
-// What the terms of a form whose masks are counted from `base` cost, each with 1 for joining it.
+// The sum over the masks of a form, each moved up by `base`: what its term costs, and 1 for joining it. There are at most 64.
 fn sum_terms(form: Form, base: usize) -> usize
     requires { ⌜ base ≤ 65536 ⌝ }
-    ensures { λ r. ⌜ (r ≡ joined (map (λ m. base + m) (masks form))) × (r ≤ 8192) ⌝ }
+    ensures { λ r. ⌜ (r ≡ total (λ m. suc (termCost m)) (map (λ m. base + m) (masks form))) × (r ≤ 8192) ⌝ }
 {
     let mut left = form;
     let mut sum = 0;
@@ -34,7 +36,7 @@ fn sum_terms(form: Form, base: usize) -> usize
     sum
 }
 
-// The raw cost of the masks in the first `words` words. There is one join fewer than there are terms, and no term costs 1.
+// The raw cost of the masks in the first `words` words. There is one join fewer than there are terms; with no term the cost is 1.
 pub fn raw_cost(words: usize, coefficients: &[u64]) -> usize
     requires { ⌜ (words ≤ length (now coefficients)) × (words ≤ 1024) ⌝ }
     ensures { λ r. ⌜ r ≡ rawCost (held words (now (coefficients .entry))) ⌝ }

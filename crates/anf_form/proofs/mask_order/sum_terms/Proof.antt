@@ -1,25 +1,23 @@
--- `anf_form::terms::sum_terms` meets its contract. The loop's invariant: the sum, with the terms of the masks that are left, is that of all terms,
--- and it is at most 128 for each mask passed. A turn adds the term of the lowest mask left (Joined). The measure is how many masks are left.
+-- `anf_form::mask_order::sum_terms` meets its contract. The loop's invariant: the sum and the bulk of the masks that are left make the bulk of all,
+-- and the sum is at most 128 for each mask passed. A turn adds the weight of the lowest mask left (Bulk). The measure is how many masks are left.
 use mathlib.Core.List.{List, map}
-use mathlib.Core.Path.{_≡_, sym, ap, _∙_}
+use mathlib.Core.Path.{_≡_, ap, _∙_}
 use Prim.Native.Nat.{ℕ, _+_, _*_, _<_, _≤_}
 use native.Mathlib.Omega.{arith}
-use lib.ListN.{length, length-drop}
-use borrow.Author.Tests.{eqb-true, eqb-false, not-true, not-false}
-use Rattle.bits.specs.Sum.{sum}
+use lib.ListN.{length, length-drop, length-map}
 use Rattle.bits.proofs.Below.{below-getD}
 use Rattle.form.specs.Masks.{masks}
-use Rattle.form.proofs.Masks.{below-masks, few-masks}
+use Rattle.form.proofs.Masks.{below-masks, few-masks, masks-left, masks-done}
 use Rattle.mask_words.specs.Lookup.{maskCount}
 use Rattle.rules.specs.Form.{termCost}
-use Rattle.anf_form.specs.Inner.{joined}
-use Rattle.anf_form.proofs.Joined.{joined-none, joined-first}
-use Rattle.anf_form.proofs.terms.sum_terms.Statement.{statement}
-use Rattle.anf_form.proofs.terms.sum_terms.Tie as tie
+use Rattle.laws.proofs.cost.Cost.{bulk, bulk-none}
+use Rattle.anf_form.proofs.Bulk.{bulk-first}
+use Rattle.anf_form.proofs.mask_order.sum_terms.Statement.{statement}
+use Rattle.anf_form.proofs.mask_order.sum_terms.Tie as tie
 
 abbrev Inv-loop : tie.InvT-loop
 Inv-loop base left₀ sum₀ left sum =
-    (sum + joined (map (λ m. base + m) (masks left)) ≡ joined (map (λ m. base + m) (masks left₀)))
+    (sum + bulk (map (λ m. base + m) (masks left)) ≡ bulk (map (λ m. base + m) (masks left₀)))
     × (sum + 128 * length (masks left) ≤ 128 * length (masks left₀))
 
 abbrev μ-loop : tie.MeasureT-loop
@@ -30,12 +28,10 @@ loop-holds c = (omega arith, omega arith)
 
 -- in a turn some mask is left, and after the loop none
 some : (c : tie.Then1 Inv-loop μ-loop) → 0 < length (masks (c .before .before .loop .left))
-some c =
-    let full = eqb-false (length (masks (c .before .before .loop .left))) 0 (sym (c .before .is-empty .ensures) ∙ not-true _ (c .if1 .taken)) in
-    omega arith
+some c = masks-left (c .before .before .loop .left) (c .before .is-empty .ensures) (c .if1 .taken)
 
 none : (c : tie.Else1 Inv-loop μ-loop) → length (masks (c .before .before .loop .left)) ≡ 0
-none c = eqb-true _ 0 (sym (c .before .is-empty .ensures) ∙ not-false _ (c .if1 .left))
+none c = masks-done (c .before .before .loop .left) (c .before .is-empty .ensures) (c .if1 .left)
 
 -- the sum so far is small
 small : (c : tie.At-loop Inv-loop μ-loop) → c .loop .sum ≤ 8192
@@ -76,15 +72,17 @@ loop-again c =
     let base = turn .before .before .before .args .base in
     let l = masks (turn .before .before .loop .left) in
     let term = taken .term-cost .ensures .0 ∙ ap (λ (m : ℕ). termCost (base + m)) (taken .before .first .ensures) in
-    let others = ap (λ (k : List ℕ). joined (map (λ m. base + m) k)) (c .rest .ensures) in (
-      omega (arith, joined-first base l (some turn), term, others),
+    let others = ap (λ (k : List ℕ). bulk (map (λ m. base + m) k)) (c .rest .ensures) in (
+      omega (arith, bulk-first base l (some turn), term, others),
       omega (arith, some turn, taken .term-cost .ensures .1, ap length (c .rest .ensures), length-drop 1 l),
     )
 
 returns : tie.Need-returns Inv-loop μ-loop
 returns c =
     let done = c .before .before in
-    (omega (arith, joined-none (done .before .args .base) (masks (done .loop .left)) (none c)), small done)
+    let moved : ℕ → ℕ = λ m. done .before .args .base + m in
+    let l = masks (done .loop .left) in
+    (omega (arith, bulk-none (map moved l) (length-map l moved ∙ none c)), small done)
 
 pub sum-terms-spec : {M : Type 1} → statement M
 sum-terms-spec =

@@ -1,5 +1,5 @@
--- `anf_form::terms::raw_cost` meets its contract. The loop's invariant: the sum is that of the terms in the words passed (Joined), at most 8192 a
--- word. At the end it is the raw cost and one more, unless there is no term (laws, Cost). The measure is what is left of the words.
+-- `anf_form::mask_order::raw_cost` meets its contract. The loop's invariant: the sum is the bulk of the masks in the words passed (Bulk), at most
+-- 8192 a word. At the end it is the raw cost and one more, unless there is no mask (laws, Cost). The measure is what is left of the words.
 use mathlib.Core.List.{List, map}
 use mathlib.Core.Path.{_≡_, refl, sym, ap, _∙_}
 use Prim.Native.Nat.{ℕ, _+_, _-_, _*_, _≤_}
@@ -7,14 +7,14 @@ use native.Mathlib.Numerals.{add-one}
 use native.Mathlib.Omega.{arith}
 use Rattle.bits.specs.Range.{keep, from}
 use Rattle.bits.specs.Sum.{sum}
-use Rattle.laws.proofs.cost.Cost.{bulk-none, bulk-some, rawCost-none, rawCost-bulk}
-use Rattle.anf_form.specs.Inner.{held, joined}
-use Rattle.anf_form.proofs.Joined.{joined-held}
-use Rattle.anf_form.proofs.terms.raw_cost.Statement.{statement}
-use Rattle.anf_form.proofs.terms.raw_cost.Tie as tie
+use Rattle.laws.proofs.cost.Cost.{bulk, rawCost-some, rawCost-none}
+use Rattle.anf_form.specs.Inner.{held}
+use Rattle.anf_form.proofs.Bulk.{bulk-held}
+use Rattle.anf_form.proofs.mask_order.raw_cost.Statement.{statement}
+use Rattle.anf_form.proofs.mask_order.raw_cost.Tie as tie
 
 abbrev Inv-loop : tie.InvT-loop
-Inv-loop words coefficients sum₀ i₀ sum i = (i ≤ words) × (sum ≡ joined (held i coefficients)) × (sum ≤ 8192 * i)
+Inv-loop words coefficients sum₀ i₀ sum i = (i ≤ words) × (sum ≡ bulk (held i coefficients)) × (sum ≤ 8192 * i)
 
 abbrev μ-loop : tie.MeasureT-loop
 μ-loop words coefficients sum₀ i₀ sum i = words - i
@@ -46,30 +46,28 @@ loop-again c =
     let l = c .before .before .before in
     let ws = l .before .before .args .coefficients .now in
     let i = l .loop .i in
-    let word = c .sum-terms .ensures .0 ∙ ap (λ (k : List ℕ). joined (map (λ m. 64 * i + m) k)) (c .before .form-at .ensures) in
-    let next = ap (λ (k : ℕ). joined (held k ws)) (add-one i) ∙ joined-held ws i in
+    let word = c .sum-terms .ensures .0 ∙ ap (λ (k : List ℕ). bulk (map (λ m. 64 * i + m) k)) (c .before .form-at .ensures) in
+    let next = ap (λ (k : ℕ). bulk (held k ws)) (add-one i) ∙ bulk-held ws i in
     (omega arith, omega (arith, word, next), omega (arith, c .sum-terms .ensures .1))
 
--- after the loop: the masks, and the sum of all their terms
+-- after the loop: all masks, and their bulk
 module _ (c : tie.After-loop Inv-loop μ-loop) where
-  abbrev masks : List ℕ
-  masks = held (c .before .before .before .args .words) (c .before .before .before .args .coefficients .now)
+  abbrev all : List ℕ
+  all = held (c .before .before .before .args .words) (c .before .before .before .args .coefficients .now)
 
-  all : c .before .loop .sum ≡ joined masks
-  all =
+  whole : c .before .loop .sum ≡ bulk all
+  whole =
       let end : c .before .loop .i ≡ c .before .before .before .args .words = omega arith in
-      c .before .loop .inv .1 ∙ ap (λ (k : ℕ). joined (held k (c .before .before .before .args .coefficients .now))) end
+      c .before .loop .inv .1 ∙ ap (λ (k : ℕ). bulk (held k (c .before .before .before .args .coefficients .now))) end
 
 sub-result : tie.Need-sub-result Inv-loop μ-loop
 sub-result c = omega arith
 
 returns : tie.Need-returns Inv-loop μ-loop
-returns c =
-    let l = masks (c .before) in
-    omega (arith, all (c .before), rawCost-bulk l (bulk-some l (omega (arith, all (c .before)))))
+returns c = let e = whole (c .before) in omega (arith, rawCost-some (all (c .before)) (omega arith))
 
 returns-2 : tie.Need-returns-2 Inv-loop μ-loop
-returns-2 c = sym (rawCost-none (masks (c .before)) (bulk-none (masks (c .before)) (omega (arith, all (c .before)))))
+returns-2 c = sym (rawCost-none (all (c .before)) (omega (arith, whole (c .before))))
 
 pub raw-cost-spec : {M : Type 1} → statement M
 raw-cost-spec =

@@ -1,11 +1,11 @@
--- `anf_form::terms::term_cost` meets its contract: a mask other than 0 has a flag, and the cost of its term is twice its flags, less one.
+-- `anf_form::mask_order::term_cost` meets its contract: a mask other than 0 has a flag, and the cost of its term is twice its flags, less one.
 use mathlib.Core.Path.{sym, ap}
 use native.Mathlib.Omega.{arith}
 use borrow.Author.Needs.{needs}
 use Rattle.rules.specs.Form.{termCost}
 use Rattle.laws.proofs.cost.Cost.{termCost-suc}
-use Rattle.anf_form.proofs.terms.term_cost.Statement.{statement}
-use Rattle.anf_form.proofs.terms.term_cost.Tie as tie
+use Rattle.anf_form.proofs.mask_order.term_cost.Statement.{statement}
+use Rattle.anf_form.proofs.mask_order.term_cost.Tie as tie
 
 returns : tie.Need-returns
 unfolding termCost
