@@ -36,7 +36,7 @@ fn row(n: usize, random: &mut Random) {
     };
     let repeat = 400;
     let (whole, call) = measure(inputs.len(), repeat, listed, ours);
-    // The library's call stands between two sums, as it does between two lists; its time is taken from there.
+    // The library's call is run in turn with the sums too; the time printed is the one beside the lists.
     let (alone, _) = measure(inputs.len(), repeat, added, ours);
     println!(
         "| {n} | {:.1} | {:.1} | {:.1} | {:.1} | {:.1} |",

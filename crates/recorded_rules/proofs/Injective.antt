@@ -3,7 +3,7 @@
 -- Injective).
 --   compiledBy-injective   == the answers of the compiler
 --   examined-injective     == the answers of the examiner
---   costed-injective       == the answers of raw costing
+--   rawCosted-injective    == the answers of raw costing
 use mathlib.Core.Bool.{Bool, true, false}
 use mathlib.Core.Path.{_≡_, refl}
 use Rattle.bits.proofs.Injective.{told-apart}
@@ -34,5 +34,5 @@ compiledBy-injective = told-apart compiledBy (λ o. compilation-of (o .refused) 
 pub examined-injective : (a b : Examination) → numberOf (examinationOf a) ≡ numberOf (examinationOf b) → a ≡ b
 examined-injective a b e = examinationOf-injective a b (numberOf-injective (examinationOf a) (examinationOf b) e)
 
-pub costed-injective : (a b : RawCost) → numberOf (rawCostOf a) ≡ numberOf (rawCostOf b) → a ≡ b
-costed-injective a b e = rawCostOf-injective a b (numberOf-injective (rawCostOf a) (rawCostOf b) e)
+pub rawCosted-injective : (a b : RawCost) → numberOf (rawCostOf a) ≡ numberOf (rawCostOf b) → a ≡ b
+rawCosted-injective a b e = rawCostOf-injective a b (numberOf-injective (rawCostOf a) (rawCostOf b) e)

@@ -1,7 +1,7 @@
 -- One recorded rule, compared step by step. It rests on the definitions of specs/Rule.
---   costing-said  == what raw costing told of the word that the transform left
---   agree-short   == an expression longer than the buffer does not agree
---   agree-said    == where it fits, the three calls' comparisons with the recorded numbers decide
+--   rawCosting-said   == what raw costing told of the word that the transform left
+--   agree-short       == an expression longer than the buffer does not agree
+--   agree-said        == where it fits, the three calls' comparisons with the recorded numbers decide
 use mathlib.Core.Bool.{Bool, false, _&&_}
 use mathlib.Core.List.{List, [], _∷_}
 use mathlib.Core.Path.{_≡_, ap, _∙_}
@@ -20,10 +20,10 @@ use Rattle.recorded.specs.Results.{numberOf}
 use Rattle.recorded_rules.specs.Answers.{compiledOf, bytesAfter}
 use Rattle.recorded_rules.specs.Rule.{tableRawCosting, agree}
 
-pub costing-said : (n : ℕ) (t : List ℕ) {ws : List ℕ} {o : result.Outcome ℕ} →
+pub rawCosting-said : (n : ℕ) (t : List ℕ) {ws : List ℕ} {o : result.Outcome ℕ} →
     ws ≡ left (0 ∷ []) (transform n t 1) → o ≡ rawCosting n ws → o ≡ tableRawCosting n t
 unfolding tableRawCosting
-costing-said n t e f = f ∙ ap (rawCosting n) e
+rawCosting-said n t e f = f ∙ ap (rawCosting n) e
 
 module _ (n : ℕ) (t a l : List ℕ) (k : ℕ) where
   pub agree-short : length l < k → agree n t a l k ≡ false

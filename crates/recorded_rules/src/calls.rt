@@ -66,7 +66,7 @@ pub fn is_accepted(flags: usize, table: &[u64], bytes: &[u8], cost: usize) -> bo
     outcome::is_same(examined(answer), outcome::given(cost, 0, 0, 0))
 }
 
-fn costed(answer: RawCost) -> Outcome
+fn raw_costed(answer: RawCost) -> Outcome
     ensures { λ r. ⌜ r ≡ numberOf (rawCostOf answer) ⌝ }
 {
     match answer {
@@ -82,5 +82,5 @@ pub fn costs_raw(flags: usize, table: &[u64], raw: usize) -> bool
     let mut words = [0u64; 1];
     compute_anf(flags, table, &mut words);
     let answer = raw_anf_cost(flags, &words);
-    outcome::is_same(costed(answer), outcome::given(raw, 0, 0, 0))
+    outcome::is_same(raw_costed(answer), outcome::given(raw, 0, 0, 0))
 }

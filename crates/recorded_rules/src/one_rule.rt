@@ -1,6 +1,6 @@
-// One recorded rule: its table compiled, the recorded expression examined against the table, and the table's coefficients
-// raw-costed. It rests on the comparison of the three calls. The recorded answer has the cost, the raw cost and the number of
-// records.
+// One recorded rule: its table compiled, the recorded expression examined against the table, and the raw cost of the table's
+// coefficients. It rests on the comparison of the three calls. The recorded answer has the cost, the raw cost and the number
+// of records.
 use crate::calls::PATTERN;
 use crate::calls::compiles_to;
 use crate::calls::costs_raw;

@@ -13,12 +13,12 @@ use Rattle.rules.specs.Monomial.{form}
 use Rattle.rules.proofs.Answers.{isNumber}
 use Rattle.rules.proofs.Computing.{computing}
 
--- the coefficient word of `01111000`, and the same with constant 1
-abbrev plain : List ℕ
-plain = form 3 (bit 30)
+-- the masks of `01111000`, whose coefficient word is 30, and the same with constant 1
+abbrev without-constant : List ℕ
+without-constant = form 3 (bit 30)
 
-abbrev turned : List ℕ
-turned = form 3 (bit 31)
+abbrev with-constant : List ℕ
+with-constant = form 3 (bit 31)
 
 -- two masks of seven flags, which stand in two words
 abbrev wide : List ℕ
@@ -27,8 +27,8 @@ wide = form 7 (packed (8 ∷ 1 ∷ []))
 -- "The raw form's terms are constant 1 first, then monomials in list order"; "for `01111000` the order is 1, 2, 4, 3"
 pub term-rows :
     T (
-    same (terms (listed plain)) (1 ∷ 2 ∷ 4 ∷ 3 ∷ [])
-    && same (terms (listed turned)) (0 ∷ 1 ∷ 2 ∷ 4 ∷ 3 ∷ [])
+    same (terms (listed without-constant)) (1 ∷ 2 ∷ 4 ∷ 3 ∷ [])
+    && same (terms (listed with-constant)) (0 ∷ 1 ∷ 2 ∷ 4 ∷ 3 ∷ [])
     && same (terms (listed wide)) (64 ∷ 3 ∷ [])
     && same (terms (listed (form 3 (bit 1)))) (0 ∷ [])
     && same (terms (listed (form 3 (bit 0)))) []
@@ -41,12 +41,12 @@ term-rows = tt
 -- and 1 + 3 with one join.
 pub mask-order-rows :
     T (
-    same plain (1 ∷ 2 ∷ 3 ∷ 4 ∷ [])
+    same without-constant (1 ∷ 2 ∷ 3 ∷ 4 ∷ [])
     && isNumber 9 (rawCosting 3 (30 ∷ []))
-    && eqb (rawCost (terms (listed plain))) 9
-    && same turned (0 ∷ 1 ∷ 2 ∷ 3 ∷ 4 ∷ [])
+    && eqb (rawCost (terms (listed without-constant))) 9
+    && same with-constant (0 ∷ 1 ∷ 2 ∷ 3 ∷ 4 ∷ [])
     && isNumber 11 (rawCosting 3 (31 ∷ []))
-    && eqb (rawCost (terms (listed turned))) 11
+    && eqb (rawCost (terms (listed with-constant))) 11
     && same wide (3 ∷ 64 ∷ [])
     && eqb (rawCost wide) 5
     && eqb (rawCost (terms (listed wide))) 5

@@ -25,7 +25,7 @@ constant l = mem 0 l
 abbrev pub monomials : List ℕ → List ℕ
 monomials l = keep (λ m. ltb 0 m) l
 
--- "constant 1 first, then monomials in list order"
+-- "constant 1 first"
 abbrev pub on : Bool → List ℕ → List ℕ
 on true l = 0 ∷ l
 on false l = l

@@ -4,7 +4,7 @@
 --   table-flags, -short, -complete               == rows 1 and 2, and past them
 --   coefficients-flags, -short, -stray, -clean   == rows 1, 3 and 4, and past them
 --   coefficients-then                            == a step after these rows is a step after what comes behind them
---   coefficients-limit                           == a lower limit of flags is one row more
+--   coefficients-lower                           == a lower limit of flags is one row more
 --   room-short, room-enough                      == row 5, and past it
 --   stars-many, -short, -enough                  == rows 1 and 14, and past them
 use mathlib.Core.Bool.{Bool, true, false}
@@ -67,10 +67,10 @@ coefficients-then limit n ws rest f =
     (refuse-then short shortCoefficients 0 (refuse (stray n ws) strayCoefficient 0 rest) f
     ∙ ap (refuse short shortCoefficients 0) (refuse-then (stray n ws) strayCoefficient 0 rest f))
 
-pub coefficients-limit : {A : Type 0} (limit most n : ℕ) (ws : List ℕ) (rest : Outcome A) → limit ≤ most
+pub coefficients-lower : {A : Type 0} (limit most n : ℕ) (ws : List ℕ) (rest : Outcome A) → limit ≤ most
     → withCoefficients limit n ws rest ≡ refuse (ltb limit n) tooManyFlags 0 (withCoefficients most n ws rest)
 unfolding withCoefficients
-coefficients-limit {A} limit most n ws rest h = go (ltb limit n) refl
+coefficients-lower {A} limit most n ws rest h = go (ltb limit n) refl
   where
     behind : Outcome A
     behind = refuse (ltb (length ws) (wordCount n)) shortCoefficients 0 (refuse (stray n ws) strayCoefficient 0 rest)

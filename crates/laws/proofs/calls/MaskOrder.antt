@@ -5,8 +5,8 @@
 --   rawCost-terms        == the sum over a form's masks, lowest first, is the sum over the terms of its listing, for every n and all coefficients
 --   terms-rawForm        == and that is the cost of the raw form
 --   listing-room         == a listing has at most 2^n masks
---   costing-listing      == raw costing is row 1, then the listing, lent room for 2^n masks, and then the sum over what it lists
---   costing-rawForm      == it gives the cost of the raw form
+--   rawCosting-listing   == raw costing is row 1, then the listing, lent room for 2^n masks, and then the sum over what it lists
+--   rawCosting-rawForm   == it gives the cost of the raw form
 use mathlib.Core.List.{List}
 use mathlib.Core.Path.{_≡_, sym, ap, _∙_}
 use mathlib.Core.Bool.{Bool}
@@ -26,7 +26,7 @@ use Rattle.rules.specs.Tree.{cost}
 use Rattle.laws.proofs.form.Covered.{ascending-form, form-split, monomial-mem}
 use Rattle.laws.proofs.form.Ordered.{length-ordered, ordered-on}
 use Rattle.laws.proofs.cost.Cost.{rawCost-ordered, cost-rawForm}
-use Rattle.laws.proofs.calls.Checked.{coefficients-then, coefficients-limit, room-enough}
+use Rattle.laws.proofs.calls.Checked.{coefficients-then, coefficients-lower, room-enough}
 
 -- ---- every form
 
@@ -55,18 +55,18 @@ module _ (n : ℕ) (c : ℕ → Bool) where
 -- ---- the two calls
 
 module _ (n : ℕ) (ws : List ℕ) where
-  pub costing-listing : (room : ℕ) → 2 ^ n ≤ room
+  pub rawCosting-listing : (room : ℕ) → 2 ^ n ≤ room
       → rawCosting n ws ≡ refuse (ltb ruleFlags n) tooManyFlags 0 (listing n ws room then (λ a. gives (rawCost (terms a))))
   unfolding rawCosting listing
-  costing-listing room h =
+  rawCosting-listing room h =
       let l = form n (packed ws) in
       let sum : Listing → Outcome ℕ = λ a. gives (rawCost (terms a)) in
       let fits = room-enough room (listed l .masks) (gives (listed l)) (omega (arith, listing-room n (packed ws))) in
-      coefficients-limit ruleFlags formFlags n ws (gives (rawCost l)) (omega arith)
+      coefficients-lower ruleFlags formFlags n ws (gives (rawCost l)) (omega arith)
       ∙ ap (refuse (ltb ruleFlags n) tooManyFlags 0)
       (sym (coefficients-then formFlags n ws _ sum
       ∙ ap (withCoefficients formFlags n ws) (ap (λ (o : Outcome Listing). o then sum) fits ∙ ap gives (sym (rawCost-terms n (packed ws))))))
 
-  pub costing-rawForm : rawCosting n ws ≡ withCoefficients ruleFlags n ws (gives (cost (rawForm (form n (packed ws)))))
+  pub rawCosting-rawForm : rawCosting n ws ≡ withCoefficients ruleFlags n ws (gives (cost (rawForm (form n (packed ws)))))
   unfolding rawCosting
-  costing-rawForm = ap (λ (k : ℕ). withCoefficients ruleFlags n ws (gives k)) (sym (cost-rawForm (form n (packed ws))))
+  rawCosting-rawForm = ap (λ (k : ℕ). withCoefficients ruleFlags n ws (gives k)) (sym (cost-rawForm (form n (packed ws))))

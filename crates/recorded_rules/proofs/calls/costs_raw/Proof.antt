@@ -3,7 +3,7 @@ use mathlib.Core.Path.{ap, ap₂, _∙_}
 use borrow.Author.Needs.{needs}
 use Rattle.comparison.specs.Outcome.{sameOutcome}
 use Rattle.recorded.specs.Results.{numberOf}
-use Rattle.recorded_rules.proofs.Rule.{costing-said}
+use Rattle.recorded_rules.proofs.Rule.{rawCosting-said}
 use Rattle.recorded_rules.proofs.calls.costs_raw.Statement.{statement}
 use Rattle.recorded_rules.proofs.calls.costs_raw.Tie as tie
 
@@ -13,7 +13,7 @@ returns c =
     let call = said .before in
     let words = call .before .before .before .compute-anf in
     c .is-same .ensures
-    ∙ ap₂ sameOutcome (said .costed .ensures ∙ ap numberOf (costing-said _ _ (words .ensures .1) (call .raw-anf-cost .ensures)))
+    ∙ ap₂ sameOutcome (said .raw-costed .ensures ∙ ap numberOf (rawCosting-said _ _ (words .ensures .1) (call .raw-anf-cost .ensures)))
     (c .before .given .ensures)
 
 pub costs-raw-spec : {M : Type 1} → statement M
