@@ -4,5 +4,4 @@ pub mod Change
 pub mod AcrossWords
 pub mod WordByWord
 pub mod Unpacked
-pub mod Filling
 pub mod Injective

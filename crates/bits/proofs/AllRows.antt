@@ -1,4 +1,4 @@
--- Small rows of the definitions, computed with them: bits, ranges, choices, sums, places and recursion along a measure. The values are counted
+-- Small rows of the definitions, computed with them: bits, ranges, choices, sums, places, bytes and recursion along a measure. The values are counted
 -- by hand from what each definition's file says of it; nothing here came from a program.
 use mathlib.Core.Bool.{true, false, not, _&&_}
 use mathlib.Core.List.{[], _∷_}
@@ -8,6 +8,7 @@ use native.Mathlib.Omega.{arith}
 use lib.Dec.{T, eqb, ltb}
 use Rattle.bits.specs.Bit.{_⊕_, digit, bit, within}
 use Rattle.bits.specs.Fixed.{below, turns, fixed}
+use Rattle.bits.specs.LowFirst.{lowFirst, lowBytes}
 use Rattle.bits.specs.Range.{from, upto, keep, all, any, mem, same, After, Ascending, Below}
 use Rattle.bits.specs.Stored.{Room, Stored}
 use Rattle.bits.specs.Sum.{sum, total, parity, union}
@@ -88,6 +89,21 @@ pub place-rows :
     )
 unfolding places word sum bit keep from same
 place-rows = tt
+
+-- ---- bytes: 197,121 is 1 + 2 · 256 + 3 · 65,536, 963 is 195 + 3 · 256, and 261 is 5 + 256
+
+pub byte-rows :
+    T (
+    eqb (lowFirst (1 ∷ 2 ∷ 3 ∷ [])) 197121
+    && eqb (lowFirst (7 ∷ [])) 7
+    && eqb (lowFirst []) 0
+    && same (lowBytes 2 963) (195 ∷ 3 ∷ [])
+    && same (lowBytes 3 963) (195 ∷ 3 ∷ 0 ∷ [])
+    && same (lowBytes 1 261) (5 ∷ [])
+    && same (lowBytes 0 963) []
+    )
+unfolding lowFirst lowBytes same
+byte-rows = tt
 
 -- ---- recursion: k + (k - 1) + .. + 0, by a rule that asks for its value at k - 1; and a rule that asks for its value at k itself
 

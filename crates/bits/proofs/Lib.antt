@@ -27,3 +27,4 @@ pub mod Cells
 pub mod Injective
 pub mod Stored
 pub mod Copied
+pub mod LowFirst

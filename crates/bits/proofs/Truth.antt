@@ -3,7 +3,7 @@
 --   xor-cancel, xor-same                                == a ⊕ (a ⊕ b) is b; a ⊕ b is false only of equals
 --   xor-other, other-xor, xor-minus                     == a ⊕ b is true only of unlike values; a without a part b of it
 --   and-intro, and-true-l, and-true-r, or-split         == a conjunction is true where both sides are, a disjunction where one is
---   or-intro-l, or-intro-r                              == a disjunction is true where a side is
+--   or-intro-l, or-intro-r, or-false-l, or-false-r      == a disjunction is true where a side is, and false only where neither is
 --   and-implied, and-minus                              == a conjunct that the other implies; b and what is left of a without b
 --   decide, bool-ext                                    == a value is true or false; two values true together are equal
 use mathlib.Core.Bool.{Bool, true, false, not, _&&_, _||_, and-false, false≢true}
@@ -84,6 +84,14 @@ or-intro-l false b e = absurd (false≢true e)
 pub or-intro-r : (a b : Bool) → b ≡ true → (a || b) ≡ true
 or-intro-r true b e = refl
 or-intro-r false b e = e
+
+pub or-false-l : (a b : Bool) → (a || b) ≡ false → a ≡ false
+or-false-l true b e = e
+or-false-l false b e = refl
+
+pub or-false-r : (a b : Bool) → (a || b) ≡ false → b ≡ false
+or-false-r true b e = absurd (false≢true (sym e))
+or-false-r false b e = e
 
 pub or-split : (a b : Bool) → (a || b) ≡ true → (a ≡ true) ⊎ (b ≡ true)
 or-split true b e = inl refl

@@ -4,3 +4,4 @@ pub mod Sum
 pub mod Word
 pub mod Fixed
 pub mod Stored
+pub mod LowFirst

@@ -4,6 +4,7 @@
 --   examine-truth                  == document 01's examination, once rows 1 and 2 are passed
 --   examineTruth-ext               == functions that agree at every setting are examined alike
 --   examine-table                  == past those rows, the examination against the table by value
+--   examine-word                   == and against the table that a word holds
 --   examine-walked                 == the examination from the walk's answer with the words of the flags
 --   verdict-costly, verdict-accepts == row 13, and past it, where no setting differs
 use mathlib.Core.Bool.{Bool}
@@ -11,9 +12,10 @@ use mathlib.Core.List.{List, [], _∷_, map}
 use mathlib.Core.Option.{none}
 use mathlib.Core.Path.{_≡_, refl, sym, ap, ap₂, _∙_}
 use Prim.Native.Nat.{ℕ, _^_, _≤_, _<_}
+use native.Mathlib.Omega.{arith}
 use lib.ListN.{length}
 use borrow.Author.Tests.{lt-ltb, le-ltb}
-use Rattle.bits.specs.Bit.{_⊕_}
+use Rattle.bits.specs.Bit.{_⊕_, bit}
 use Rattle.bits.specs.Range.{upto}
 use Rattle.rules.specs.Calls.{withTable, tableForm, differences, judged, examine}
 use Rattle.rules.specs.Coefficient.{coefficient}
@@ -22,10 +24,11 @@ use Rattle.rules.specs.Limits.{ruleFlags, tooCostly}
 use Rattle.rules.specs.Machine.{made}
 use Rattle.rules.specs.Monomial.{form}
 use Rattle.rules.specs.Outcome.{gives, refuses, _then_}
-use Rattle.rules.specs.Table.{entry}
+use Rattle.rules.specs.Table.{entry, wordTable}
 use Rattle.rules.specs.Tree.{Tree, value, cost}
 use Rattle.laws.proofs.calls.Checked.{table-complete}
 use Rattle.laws.proofs.calls.Outcome.{then-ext, then-then}
+use Rattle.laws.proofs.calls.WordTable.{length-wordTable, entry-wordTable}
 use Rattle.mask_words.specs.Lookup.{flagWord}
 use Rattle.lanes.specs.Lanes.{seen}
 use Rattle.table.specs.Truth.{truth, tableOf, first}
@@ -62,6 +65,11 @@ module _ (n : ℕ) where
         ap (λ (x : Table). examineTruth n (truth x) s) e
         ∙ examineTruth-ext (truth (tableOf n (entry table))) (entry table) s (truth-tableOf n (entry table))
         ∙ sym (examine-truth n table s ∙ table-complete ruleFlags n table _ few enough)
+
+    pub examine-word : (w : ℕ) (s : List ℕ) → examineTruth n (bit w) s ≡ examine n (wordTable n w) s
+    examine-word w s =
+        examineTruth-ext (bit w) (entry (wordTable n w)) s (λ at l. sym (entry-wordTable n w at l))
+        ∙ sym (examine-truth n (wordTable n w) s ∙ table-complete ruleFlags n (wordTable n w) _ few (omega (arith, length-wordTable n w)))
 
     -- ---- from the walk
 

@@ -15,6 +15,7 @@ ghost use mathlib.Core.Path.{_≡_};
 ghost use Prim.Native.Nat.{_≤_};
 ghost use Rattle.rules.specs.Calls;
 ghost use Rattle.rules.specs.Limits.{ruleFlags};
+ghost use Rattle.rules.specs.Table.{wordTable};
 ghost use Rattle.table.specs.Truth.{truth};
 ghost use Rattle.examiner.specs.Answers.{examinationOf};
 ghost use Rattle.examiner.specs.Examined.{examineTruth};
@@ -55,6 +56,14 @@ pub fn examine_table(flags: usize, table: Table, bytes: &[u8]) -> Examination
         Walked::Values(seen) => judge(flags, table, seen),
         Walked::Refused(refusal) => Examination::Refused(refusal),
     }
+}
+
+// The same against the table that a word holds, bit s for setting s.
+pub fn examine_word(flags: usize, word: u64, bytes: &[u8]) -> Examination
+    requires { ⌜ flags ≤ ruleFlags ⌝ }
+    ensures { λ r. ⌜ examinationOf r ≡ Calls.examine flags (wordTable flags word) (now (bytes .entry)) ⌝ }
+{
+    examine_table(flags, Table { bits: word }, bytes)
 }
 
 // The verdict on an expression of which the walk saw this.

@@ -2,7 +2,8 @@
 --   formFlags, ruleFlags     == the most flags of the transform, the way back and the listing, and of all other calls
 --   recordLimit, byteLimit   == the most records of an expression, and the bytes that suffice for a compiled one
 --   wordBits                 == the bits of a word: its coefficients, or its stars
---   tooManyFlags .. shortStars   == the refusals' numbers, 1 to 14, by their conditions
+--   packageFlags, packageLimit   == the most flags of a package's rule, and the most bytes of a package
+--   tooManyFlags .. strayTable   == the refusals' numbers, 1 to 17, by their conditions
 use Prim.Native.Nat.{ℕ}
 
 -- "above 16 (transform, way back, listing); above 6 (all others)"
@@ -23,6 +24,14 @@ byteLimit = 963
 -- "Coefficients are 64-bit words: coefficient m is bit m mod 64 of word m div 64"; request 1: "one 64-bit word per flag, bit j for star j"
 abbrev pub wordBits : ℕ
 wordBits = 64
+
+-- request 4: refused "by 1" are more flags than six, as document 01 has it for all calls but three
+abbrev pub packageFlags : ℕ
+packageFlags = 6
+
+-- request 4: "A package is rules end to end, at most 65,536 bytes"
+abbrev pub packageLimit : ℕ
+packageLimit = 65536
 
 -- "Refusals by place of check": the column "No.", by the condition.
 abbrev pub tooManyFlags : ℕ
@@ -67,3 +76,14 @@ tooCostly = 13
 -- request 1: "It refuses with 14 .. when fewer than n words are lent"
 abbrev pub shortStars : ℕ
 shortStars = 14
+
+-- request 4: "It refuses with 15 when the mark is wrong or cut, with 16 when header or expression runs past the end or the package is longer than
+-- allowed, and with 17 when a table bit stands at 2^n or above."
+abbrev pub badRuleMark : ℕ
+badRuleMark = 15
+
+abbrev pub pastEnd : ℕ
+pastEnd = 16
+
+abbrev pub strayTable : ℕ
+strayTable = 17

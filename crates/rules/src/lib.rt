@@ -12,6 +12,11 @@ pub const RECORD_LIMIT: usize = 385;
 
 pub const BYTE_LIMIT: usize = 963;
 
+// Limits of a package: the flags of its rules, and its bytes.
+pub const PACKAGE_FLAGS: usize = 6;
+
+pub const PACKAGE_LIMIT: usize = 65536;
+
 // The numbers of the refusals, in the order of the checks: that of document 01's table, with request 1's 14 before the records.
 pub const TOO_MANY_FLAGS: u64 = 1;
 
@@ -40,6 +45,13 @@ pub const DIFFERS: u64 = 12;
 pub const TOO_COSTLY: u64 = 13;
 
 pub const SHORT_OUTPUT: u64 = 5;
+
+// Those of a package: 15 and 16 come before 1, and 17 before the records.
+pub const BAD_RULE_MARK: u64 = 15;
+
+pub const PAST_END: u64 = 16;
+
+pub const STRAY_TABLE: u64 = 17;
 
 // A refusal: the number by which the documents know its condition, and the place it gives.
 pub struct Refusal {

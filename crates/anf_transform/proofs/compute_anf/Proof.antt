@@ -15,7 +15,7 @@ use Rattle.rules.specs.Table.{entry}
 use Rattle.laws.proofs.calls.Checked.{table-flags, table-short, table-complete, room-short, room-enough}
 use Rattle.laws.proofs.transform.Packed.{length-words}
 use Rattle.bits.proofs.Stores.{sets-front}
-use Rattle.anf_transform.proofs.Filling.{filled-refusal, filled-result}
+use Rattle.laws.proofs.calls.Outcome.{left-refuses, left-gives}
 use Rattle.anf_transform.proofs.compute_anf.Statement.{statement}
 use Rattle.anf_transform.proofs.compute_anf.Tie as tie
 
@@ -33,7 +33,7 @@ returns : tie.Need-returns
 unfolding transform
 returns c =
     let s = c .before .before .before in
-    filled-refusal (s .args .out .now) (call s) 1 0
+    left-refuses (s .args .out .now) (call s) 1 0
     (table-flags formFlags (s .args .flags) (s .args .table .now) (fill (length (s .args .out .now)) (due s)) (omega arith))
 
 setting-count-requires : tie.Need-setting-count-requires
@@ -43,7 +43,7 @@ returns-2 : tie.Need-returns-2
 unfolding transform
 returns-2 c =
     let s = c .before .before .before .before .before in
-    filled-refusal (s .args .out .now) (call s) 2 0
+    left-refuses (s .args .out .now) (call s) 2 0
     (table-short formFlags (s .args .flags) (s .args .table .now) (fill (length (s .args .out .now)) (due s)) (search needs) (omega arith))
 
 word-count-requires : tie.Need-word-count-requires
@@ -64,7 +64,7 @@ unfolding fill
 returns-3 c =
     let s = start (c .before) in
     let n : length (due s) ≡ c .before .word-count .result = due-length s ∙ sym (c .before .word-count .ensures) in
-    filled-refusal (s .args .out .now) (call s) 5 (c .before .word-count .result)
+    left-refuses (s .args .out .now) (call s) 5 (c .before .word-count .result)
     (passed (c .before) ∙ room-short (length (s .args .out .now)) (due s) (gives (due s)) (omega arith) ∙ ap (refuses 5) n)
 
 slice-relend-prefix-transform-table : tie.Need-slice-relend-prefix-transform-table
@@ -94,7 +94,7 @@ returns-4 c =
     let k = w .word-count .result in
     let n : length (due s) ≡ k = due-length s ∙ sym (w .word-count .ensures) in
     let after = c .before .before .transform-table .last .1 .1 .0 ++ drop k (s .args .out .now) in
-    filled-result (s .args .out .now) after (due s) (call s) k
+    left-gives (s .args .out .now) after (due s) (call s) k
     (passed w ∙ room-enough (length (s .args .out .now)) (due s) (gives (due s)) (omega arith)) n (search needs)
     (ap₂ (λ (l : List ℕ) (i : ℕ). l ++ drop i (s .args .out .now)) (c .before .before .transform-table .ensures) (sym n)
     ∙ sym (sets-front (due s) (s .args .out .now) (omega arith)))

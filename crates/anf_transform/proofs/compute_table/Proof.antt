@@ -14,7 +14,7 @@ use Rattle.rules.specs.Outcome.{Outcome, gives, refuses}
 use Rattle.rules.specs.Table.{settings}
 use Rattle.laws.proofs.calls.Checked.{coefficients-flags, coefficients-short, coefficients-stray, coefficients-clean, room-short, room-enough}
 use Rattle.bits.proofs.Tabulated.{length-map-upto}
-use Rattle.anf_transform.proofs.Filling.{filled-refusal, filled-result}
+use Rattle.laws.proofs.calls.Outcome.{left-refuses, left-gives}
 use Rattle.anf_transform.proofs.compute_table.Statement.{statement}
 use Rattle.anf_transform.proofs.compute_table.Tie as tie
 
@@ -35,7 +35,7 @@ returns : tie.Need-returns
 unfolding wayBack
 returns c =
     let s = c .before .before .before in
-    filled-refusal (s .args .out .now) (call s) 1 0
+    left-refuses (s .args .out .now) (call s) 1 0
     (coefficients-flags formFlags (s .args .flags) (s .args .coefficients .now) (last s) (omega arith))
 
 word-count-requires : tie.Need-word-count-requires
@@ -45,7 +45,7 @@ returns-2 : tie.Need-returns-2
 unfolding wayBack
 returns-2 c =
     let s = c .before .before .before .before .before in
-    filled-refusal (s .args .out .now) (call s) 3 0
+    left-refuses (s .args .out .now) (call s) 3 0
     (coefficients-short formFlags (s .args .flags) (s .args .coefficients .now) (last s) (search needs) (omega arith))
 
 is-stray-requires : tie.Need-is-stray-requires
@@ -55,7 +55,7 @@ returns-3 : tie.Need-returns-3
 unfolding wayBack
 returns-3 c =
     let s = c .before .before .before .before .before .before .before in
-    filled-refusal (s .args .out .now) (call s) 4 0
+    left-refuses (s .args .out .now) (call s) 4 0
     (coefficients-stray formFlags (s .args .flags) (s .args .coefficients .now) (last s) (search needs) (omega arith)
     (sym (c .before .is-stray .ensures) ∙ c .if3 .taken))
 
@@ -78,7 +78,7 @@ unfolding fill
 returns-4 c =
     let s = start (c .before .before) in
     let n : length (due s) ≡ c .before .setting-count .result = due-length s ∙ sym (c .before .setting-count .ensures) in
-    filled-refusal (s .args .out .now) (call s) 5 (c .before .setting-count .result)
+    left-refuses (s .args .out .now) (call s) 5 (c .before .setting-count .result)
     (passed (c .before .before) ∙ room-short (length (s .args .out .now)) (due s) (gives (due s)) (omega arith) ∙ ap (refuses 5) n)
 
 transform-back-requires : tie.Need-transform-back-requires
@@ -93,7 +93,7 @@ returns-5 c =
     let w = c .before .before .before .before .before in
     let s = start (w .before) in
     let n : length (due s) ≡ w .setting-count .result = due-length s ∙ sym (w .setting-count .ensures) in
-    filled-result (s .args .out .now) (c .before .before .transform-back .last .1 .1 .0) (due s) (call s) (w .setting-count .result)
+    left-gives (s .args .out .now) (c .before .before .transform-back .last .1 .1 .0) (due s) (call s) (w .setting-count .result)
     (passed (w .before) ∙ room-enough (length (s .args .out .now)) (due s) (gives (due s)) (omega arith)) n (search needs)
     (c .before .before .transform-back .ensures)
 

@@ -67,10 +67,8 @@ module _ (n : ℕ) (ws s : List ℕ) (enough : n ≤ ruleFlags → n ≤ length 
       go (refuses k p) f = absurd (not-both (sym (e 0 (lit< tt)) ∙ single-refused 0 k p (lit< tt) f))
 
 -- past the two rows no refusal is by 14
-enough-short : (n : ℕ) (ws s : List ℕ) → By (λ k. k < shortStars) (made n s then (λ t. gives (starValues n ws t)))
-enough-short n ws s =
-    by-step (λ k. k < shortStars) (made n s) _
-    (made-by (λ k. k < shortStars) (omega arith) (omega arith) (omega arith) (omega arith) (omega arith) n s) (λ t. tt)
+enough-short : (n : ℕ) (ws s : List ℕ) → By (λ k p. k < shortStars) (made n s then (λ t. gives (starValues n ws t)))
+enough-short n ws s = by-step (λ k p. k < shortStars) (made n s) _ (made-by (λ k p. k < shortStars) n s (omega arith)) (λ t. tt)
 
 pub short-words : (n : ℕ) (ws s : List ℕ) (p : ℕ) → evaluateStars n ws s ≡ refuses shortStars p → (n ≤ ruleFlags) × (length ws < n)
 short-words n ws s p e = elim (decLt ruleFlags n) [

@@ -1,38 +1,36 @@
 -- Every refusal has a number above 0, so a number 0 means a result: the console's two calls together tell the outcome.
 -- It rests on the rows of the calls, and for the reading of an expression on Refused.
---   Positive k, Numbered o   == k is above 0; a refusal of o has such a number
+--   Positive k p, Numbered o == k is above 0, whatever the place p; a refusal of o has such a number
 --   numbered-made            == so for the reading of an expression
 --   numbered-transform, numbered-wayBack, numbered-listing, numbered-rawCosting, numbered-compile      == for the calls on tables and coefficients
 --   numbered-read, numbered-evaluate, numbered-evaluateStars, numbered-costing, numbered-examine       == for those on expressions
 --   both-tell                == number and result together tell such an outcome
 use mathlib.Core.Bool.{not}
-use mathlib.Core.List.{List, [], _∷_}
+use mathlib.Core.List.{List}
 use mathlib.Core.Path.{_≡_, ap, ap₂}
 use Prim.Native.Nat.{ℕ, _^_, _<_}
 use native.Mathlib.Omega.{arith}
 use lib.Dec.{ltb, leb}
 use lib.ListN.{length}
 use Rattle.rules.specs.Calls.{withTable, withCoefficients, withRoom, fill, transform, wayBack, listing, rawCosting, compile}
-use Rattle.rules.specs.Calls.{read, parse, evaluate, evaluateStars, costing, judged, examine, differences, tableForm}
+use Rattle.rules.specs.Calls.{read, parse, evaluate, evaluateStars, costing, examine}
 use Rattle.rules.specs.Console.{number, result}
-use Rattle.rules.specs.Form.{rawCost}
 use Rattle.rules.specs.Coefficient.{wordCount, stray}
 use Rattle.rules.specs.Limits.{formFlags, ruleFlags}
 use Rattle.rules.specs.Machine.{made}
 use Rattle.rules.specs.Outcome.{Outcome, gives, refuses}
 use Rattle.rules.specs.Record.{recordAt}
 use Rattle.rules.specs.Table.{complete}
-use Rattle.rules.specs.Tree.{Tree, cost}
-use Rattle.laws.proofs.calls.Refused.{By, by-row, by-step, by-choice, record-by, made-by}
+use Rattle.laws.proofs.calls.Refused.{By, by-row, by-step, by-choice, record-by, made-by, examined-by}
 
-abbrev pub Positive : ℕ → Type 0
-Positive k = 0 < k
+abbrev pub Positive : ℕ → ℕ → Type 0
+Positive k p = 0 < k
 
 abbrev pub Numbered : {A : Type 0} → Outcome A → Type 0
 Numbered o = By Positive o
 
 pub numbered-made : (n : ℕ) (s : List ℕ) → Numbered (made n s)
-numbered-made n s = made-by Positive (omega arith) (omega arith) (omega arith) (omega arith) (omega arith) n s
+numbered-made n s = made-by Positive n s (omega arith)
 
 -- ---- tables, coefficients and room
 
@@ -78,7 +76,7 @@ unfolding read
 numbered-read n s p =
     by-row Positive (ltb ruleFlags n) _ _ _ (omega arith)
     (by-choice Positive (ltb p (length s)) _ _
-    (by-step Positive (recordAt n s p) _ (record-by Positive (omega arith) (omega arith) n s p) (λ r. tt)) tt)
+    (by-step Positive (recordAt n s p) _ (record-by Positive n s p (omega arith) (omega arith)) (λ r. tt)) tt)
 
 pub numbered-costing : (n : ℕ) (s : List ℕ) → Numbered (costing n s)
 unfolding costing parse
@@ -96,16 +94,9 @@ numbered-evaluateStars n ws s =
     by-row Positive (ltb ruleFlags n) _ _ _ (omega arith)
     (by-row Positive (ltb (length ws) n) _ _ _ (omega arith) (by-step Positive (made n s) _ (numbered-made n s) (λ t. tt)))
 
-judged-row : (raw : ℕ) (t : Tree) (l : List ℕ) → Numbered (judged raw t l)
-unfolding judged
-judged-row raw t (s ∷ l) = omega arith
-judged-row raw t [] = by-row Positive (ltb raw (cost t)) _ _ _ (omega arith) tt
-
 pub numbered-examine : (n : ℕ) (table s : List ℕ) → Numbered (examine n table s)
 unfolding examine
-numbered-examine n table s =
-    table-row ruleFlags n table _
-    (by-step Positive (made n s) _ (numbered-made n s) (λ t. judged-row (rawCost (tableForm n table)) t (differences n table t)))
+numbered-examine n table s = table-row ruleFlags n table _ (examined-by Positive (omega arith) (omega arith) n table s (omega arith))
 
 -- ---- the two together
 

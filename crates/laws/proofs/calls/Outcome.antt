@@ -10,17 +10,19 @@
 --   then-then        == a step that computes and then goes on is two
 --   front-written    == the first entries of a buffer are what was written there
 --   length-front     == a buffer's front tells how long it is
+--   left-refuses     == a refusal, and a buffer that was left alone
+--   left-gives       == a result of so many entries, and a buffer that has it at its front
 --   pick, pick-gives == a choice between two outcomes: one of them gave the result
 use mathlib.Core.Bool.{Bool, true, false}
 use mathlib.Core.List.{List}
-use mathlib.Core.Path.{_≡_, refl, sym, ap, _∙_}
+use mathlib.Core.Path.{_≡_, refl, sym, ap, ap₂, _∙_}
 use Prim.Native.Nat.{ℕ, _≤_}
 use native.Mathlib.Omega.{arith}
 use lib.ListN.{length, getD}
-use lib.Seq.{getD-take}
+use lib.Seq.{sets, getD-take}
 use Rattle.bits.proofs.Stores.{take-sets-front}
 use Rattle.bits.proofs.Tabulated.{map-upto-of, length-map-upto}
-use Rattle.rules.specs.Outcome.{Outcome, gives, refuses, refuse, _then_, written, front}
+use Rattle.rules.specs.Outcome.{Outcome, gives, refuses, refuse, _then_, written, front, left}
 
 pub gives-same : {A : Type 0} {a b : A} → _≡_ {A = Outcome A} (gives a) (gives b) → a ≡ b
 gives-same e = cc
@@ -67,3 +69,13 @@ front-written l out h =
 
 pub length-front : (k : ℕ) (out : List ℕ) → length (front k out) ≡ k
 length-front k out = length-map-upto k (λ i. getD out i 0)
+
+pub left-refuses : (out : List ℕ) (o : Outcome (List ℕ)) (k p : ℕ) → o ≡ refuses k p → (refuses k p ≡ o) × (out ≡ left out o)
+left-refuses out o k p e = (sym e, ap (left out) (sym e))
+
+pub left-gives : (out after l : List ℕ) (o : Outcome (List ℕ)) (n : ℕ) → o ≡ gives l → length l ≡ n → n ≤ length out → after ≡ sets out 0 l
+    → (gives (front n after) ≡ o) × (after ≡ left out o)
+left-gives out after l o n e s h w = (
+  ap (λ (r : List ℕ). gives r) (ap₂ front (sym s) w ∙ front-written l out (rw s h)) ∙ sym e,
+  w ∙ ap (left out) (sym e),
+)

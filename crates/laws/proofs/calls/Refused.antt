@@ -1,28 +1,47 @@
--- By which numbers an outcome refuses, and that the reading of an expression refuses by 6 to 10 alone. It rests on the rows of the machine.
---   By P o                         == a refusal of o has a number for which P holds
+-- By which numbers and at which places an outcome refuses: the reading of an expression by 6 to 9 before the end of its bytes, and by 10 there. It
+-- rests on the rows of the machine and of the examiner.
+--   By P o                         == a refusal of o has a number and a place for which P holds
 --   by-row, by-step, by-choice     == a row, two steps and a choice refuse so where their parts do
---   record-by, made-by             == of a record: 6 and 7; of an expression: 6 to 10
-use mathlib.Core.Bool.{Bool, true, false}
+--   by-turn                        == a turn of a reader, where bytes are left and where none is
+--   record-by                      == a record refuses by 6 and 7 at its own place
+--   ReadingBy P len, made-by       == P holds of 6 to 9 at every place before len and of 10 at len; so an expression of len bytes refuses by P
+--   judged-by, examined-by         == a verdict refuses by 12 and 13; so do an expression's reading and its verdict together
+--   Placed len k p, examine-places == unless k is 12 or 13, p is at most len; so it is where the examiner refuses an expression of len bytes
+use mathlib.Core.Bool.{Bool, true, false, not}
 use mathlib.Core.List.{List, [], _∷_}
+use mathlib.Core.Logic.{_≢_}
 use mathlib.Core.Option.{Option, none, some}
-use Prim.Native.Nat.{ℕ, zero, suc, _+_}
+use mathlib.Core.Path.{_≡_, refl, subst}
+use Prim.Native.Nat.{ℕ, zero, suc, _+_, _≤_, _<_}
+use native.Mathlib.Omega.{arith}
 use lib.Dec.{ltb}
 use lib.ListN.{length}
-use Rattle.rules.specs.Limits.{recordLimit, badMark, badPayload, fewOperands, manyRecords, badEnd}
+use borrow.Author.Tests.{ltb-true}
+use Rattle.rules.specs.Calls.{withTable, tableForm, differences, judged, examine}
+use Rattle.rules.specs.Form.{rawCost}
+use Rattle.rules.specs.Limits.{ruleFlags, recordLimit, badMark, badPayload, fewOperands, manyRecords, badEnd, differs, tooCostly}
 use Rattle.rules.specs.Machine.{push, finish, operands, run, made}
 use Rattle.rules.specs.Outcome.{Outcome, gives, refuses, refuse, _then_}
 use Rattle.rules.specs.Record.{Kind, marked, plain, loaded, recordAt}
-use Rattle.rules.specs.Tree.{Tree}
+use Rattle.rules.specs.Table.{complete}
+use Rattle.rules.specs.Tree.{Tree, cost}
 use Rattle.laws.proofs.calls.Outcome.{pick}
 
-abbrev pub By : {A : Type 0} → (ℕ → Type 0) → Outcome A → Type 0
+abbrev pub By : {A : Type 0} → (ℕ → ℕ → Type 0) → Outcome A → Type 0
 By P (gives a) = Unit
-By P (refuses k p) = P k
+By P (refuses k p) = P k p
 
-module _ (P : ℕ → Type 0) where
+pub record ReadingBy (P : ℕ → ℕ → Type 0) (len : ℕ) : Type 0 where
+  pub mark : (p : ℕ) → p < len → P badMark p
+  pub payload : (p : ℕ) → p < len → P badPayload p
+  pub few : (p : ℕ) → p < len → P fewOperands p
+  pub many : (p : ℕ) → p < len → P manyRecords p
+  pub end : P badEnd len
+
+module _ (P : ℕ → ℕ → Type 0) where
   -- ---- row by row
 
-  pub by-row : {A : Type 0} (b : Bool) (k p : ℕ) (rest : Outcome A) → P k → By P rest → By P (refuse b k p rest)
+  pub by-row : {A : Type 0} (b : Bool) (k p : ℕ) (rest : Outcome A) → P k p → By P rest → By P (refuse b k p rest)
   by-row true k p rest h r = h
   by-row false k p rest h r = r
 
@@ -34,47 +53,84 @@ module _ (P : ℕ → Type 0) where
   by-choice true x y h r = h
   by-choice false x y h r = r
 
+  pub by-turn : {A : Type 0} (p len : ℕ) (x y : Outcome A) → (p < len → By P x) → By P y → By P (pick (ltb p len) x y)
+  by-turn {A} p len x y f r = go (ltb p len) refl
+    where
+      go : (b : Bool) → ltb p len ≡ b → By P (pick b x y)
+      go true e = f (ltb-true p len e)
+      go false e = r
+
   -- ---- records
 
-  module _ (mark : P badMark) (payload : P badPayload) where
-    loaded-by : (s : List ℕ) (p : ℕ) (fits : Bool) (k : Kind) → By P (loaded s p fits k)
+  module _ (n : ℕ) (s : List ℕ) (p : ℕ) (mark : P badMark p) (payload : P badPayload p) where
+    loaded-by : (fits : Bool) (k : Kind) → By P (loaded s p fits k)
     unfolding loaded
-    loaded-by s p fits k =
+    loaded-by fits k =
         by-row (ltb (length s) (p + 3)) badPayload p _ payload
         (by-choice fits (gives record { kind = k; next = p + 3 }) (refuses badPayload p) tt payload)
 
-    pub record-by : (n : ℕ) (s : List ℕ) (p : ℕ) → By P (recordAt n s p)
+    pub record-by : By P (recordAt n s p)
     unfolding recordAt plain
-    record-by n s p =
+    record-by =
         by-row (ltb (length s) (p + 2)) badMark p _ mark
-        (by-choice (marked s p "CO") _ _ (loaded-by s p _ _)
-        (by-choice (marked s p "VA") _ _ (loaded-by s p _ _)
+        (by-choice (marked s p "CO") _ _ (loaded-by _ _)
+        (by-choice (marked s p "VA") _ _ (loaded-by _ _)
         (by-choice (marked s p "AN") _ _ tt
         (by-choice (marked s p "OR") _ _ tt
         (by-choice (marked s p "XO") _ _ tt
         (by-choice (marked s p "NO") _ _ tt mark))))))
 
-    module _ (few : P fewOperands) (many : P manyRecords) (end : P badEnd) where
-      finish-by : (len : ℕ) (ts : List Tree) → By P (finish len ts)
-      unfolding finish
-      finish-by len [] = end
-      finish-by len (t ∷ []) = tt
-      finish-by len (t ∷ u ∷ ts) = end
+  -- ---- expressions
 
-      operands-by : (p : ℕ) (o : Option (List Tree)) → By P (operands p o)
-      unfolding operands
-      operands-by p none = few
-      operands-by p (some ts) = tt
+  finish-by : (len : ℕ) (ts : List Tree) → P badEnd len → By P (finish len ts)
+  unfolding finish
+  finish-by len [] h = h
+  finish-by len (t ∷ []) h = tt
+  finish-by len (t ∷ u ∷ ts) h = h
 
-      run-by : (k n : ℕ) (s : List ℕ) (p : ℕ) (ts : List Tree) → By P (run k n s p ts)
-      unfolding run
-      run-by zero n s p ts = by-choice (ltb p (length s)) _ _ many (finish-by (length s) ts)
-      run-by (suc k) n s p ts =
-          by-choice (ltb p (length s)) _ _
-          (by-step (recordAt n s p) _ (record-by n s p)
-          (λ r. by-step (operands p (push (r .kind) ts)) _ (operands-by p (push (r .kind) ts)) (λ us. run-by k n s (r .next) us)))
-          (finish-by (length s) ts)
+  operands-by : (p : ℕ) (o : Option (List Tree)) → P fewOperands p → By P (operands p o)
+  unfolding operands
+  operands-by p none h = h
+  operands-by p (some ts) h = tt
 
-      pub made-by : (n : ℕ) (s : List ℕ) → By P (made n s)
-      unfolding made
-      made-by n s = run-by recordLimit n s 0 []
+  module _ (n : ℕ) (s : List ℕ) (by : ReadingBy P (length s)) where
+    run-by : (k p : ℕ) (ts : List Tree) → By P (run k n s p ts)
+    unfolding run
+    run-by zero p ts = by-turn p (length s) _ _ (by .many p) (finish-by (length s) ts (by .end))
+    run-by (suc k) p ts =
+        by-turn p (length s) _ _
+        (λ h. by-step (recordAt n s p) _ (record-by n s p (by .mark p h) (by .payload p h))
+        (λ r. by-step (operands p (push (r .kind) ts)) _ (operands-by p (push (r .kind) ts) (by .few p h)) (λ us. run-by k (r .next) us)))
+        (finish-by (length s) ts (by .end))
+
+    pub made-by : By P (made n s)
+    unfolding made
+    made-by = run-by recordLimit 0 []
+
+  -- ---- examinations
+
+  module _ (differing : (at : ℕ) → P differs at) (costly : (c : ℕ) → P tooCostly c) where
+    pub judged-by : (raw : ℕ) (t : Tree) (l : List ℕ) → By P (judged raw t l)
+    unfolding judged
+    judged-by raw t (s ∷ l) = differing s
+    judged-by raw t [] = by-row (ltb raw (cost t)) tooCostly (cost t) _ (costly (cost t)) tt
+
+    pub examined-by : (n : ℕ) (table s : List ℕ) → ReadingBy P (length s)
+        → By P (made n s then (λ t. judged (rawCost (tableForm n table)) t (differences n table t)))
+    examined-by n table s by =
+        by-step (made n s) _ (made-by n s by) (λ t. judged-by (rawCost (tableForm n table)) t (differences n table t))
+
+-- ---- the places of an examination's refusals
+
+abbrev pub Placed : ℕ → ℕ → ℕ → Type 0
+Placed len k p = k ≢ differs → k ≢ tooCostly → p ≤ len
+
+placed-examine : (n : ℕ) (table s : List ℕ) → By (Placed (length s)) (examine n table s)
+unfolding examine withTable
+placed-examine n table s =
+    by-row (Placed (length s)) (ltb ruleFlags n) _ _ _ (omega arith)
+    (by-row (Placed (length s)) (not (complete n table)) _ _ _ (omega arith)
+    (examined-by (Placed (length s)) (omega arith) (omega arith) n table s (omega arith)))
+
+pub examine-places : (n : ℕ) (table s : List ℕ) (k p : ℕ) → examine n table s ≡ refuses k p → k ≢ differs → k ≢ tooCostly → p ≤ length s
+examine-places n table s k p e = subst (By (Placed (length s))) e (placed-examine n table s)

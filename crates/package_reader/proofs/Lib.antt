@@ -1,0 +1,3 @@
+pub mod Number
+pub mod Rows
+pub mod Injective

@@ -1,0 +1,107 @@
+-- The reader row by row: the mark, the bytes that are there, the flag count and the table; before them the package's length and the end, and behind them
+-- the places of the examination. It rests on the definitions of rule_package, and for what a header
+-- tells on its Stands.
+--   marked-cut, marked-whole                     == a mark that is cut, and one byte by byte
+--   headed-mark, headed-cut, headed-short        == 15, and 16 for the header and for the expression
+--   headed-known                                 == past them, the rows of what the header says
+--   headed-whole                                 == a rule that passed all four is whole
+--   known-flags, known-stray, known-clean        == 1 and 17, and past them the rule
+--   from-differs, from-costly, from-bytes        == places that are as before, and one that is counted from the package's start
+--   read-long, read-past, read-headed            == an overlong package, the end, and a rule
+use mathlib.Core.Bool.{Bool, true, false, _&&_, and-true}
+use mathlib.Core.List.{List, _++_}
+use mathlib.Core.Logic.{_≢_}
+use mathlib.Core.Option.{none, some}
+use mathlib.Core.Path.{_≡_, ap, ap₂, _∙_}
+use mathlib.Mathlib.Data.Bool.Basic.{eq-false-of-not-eq-true}
+use Prim.Native.Nat.{ℕ, _+_, _≤_, _<_}
+use native.Mathlib.Omega.{arith}
+use lib.Dec.{eqb}
+use lib.ListN.{length, getD, drop, length-take, length-drop}
+use borrow.Author.Tests.{lt-ltb, le-ltb, ne-eqb}
+use Rattle.bits.specs.Range.{same}
+use Rattle.bits.proofs.Range.{same-true}
+use Rattle.rules.specs.Ascii.{ascii}
+use Rattle.rules.specs.Limits.{packageFlags, packageLimit, tooManyFlags, differs, tooCostly, badRuleMark, pastEnd, strayTable}
+use Rattle.rules.specs.Outcome.{Outcome, gives, refuses, _then_}
+use Rattle.rule_package.specs.Calls.{part, RuleAt, ruleAt, ruleIn, headed, fromStart, readRule}
+use Rattle.rule_package.specs.Rule.{headerLength, strayBit, examineRule}
+use Rattle.rule_package.proofs.Header.{part-add, part-one}
+use Rattle.rule_package.proofs.Stands.{headed-gives}
+use Rattle.package_reader.specs.Inner.{known, Whole}
+
+module _ (s : List ℕ) (p : ℕ) where
+  pub marked-cut : length s < p + 2 → same (part s p 2) (ascii "RU") ≡ false
+  unfolding ascii
+  marked-cut h = eq-false-of-not-eq-true (λ e. omega (arith, ap length (same-true (part s p 2) (ascii "RU") e), length-take 2 (drop p s), length-drop p s))
+
+  pub marked-whole : p + 2 ≤ length s → same (part s p 2) (ascii "RU") ≡ eqb (getD s p 0) 82 && eqb (getD s (p + 1) 0) 85
+  unfolding ascii same
+  marked-whole h =
+      ap (λ (l : List ℕ). same l (ascii "RU")) (part-add s p 1 1 ∙ ap₂ (λ (a b : List ℕ). a ++ b) (part-one s p (omega arith)) (part-one s (p + 1) (omega arith)))
+      ∙ ap (λ (b : Bool). eqb (getD s p 0) 82 && b) (and-true (eqb (getD s (p + 1) 0) 85))
+
+  pub headed-mark : same (part s p 2) (ascii "RU") ≡ false → headed s p ≡ refuses badRuleMark p
+  unfolding headed
+  headed-mark e = rw e
+
+  module _ (marked : same (part s p 2) (ascii "RU") ≡ true) where
+    pub headed-cut : length s < p + headerLength → headed s p ≡ refuses pastEnd p
+    unfolding headed
+    headed-cut h = rw (marked, lt-ltb (length s) (p + headerLength) h)
+
+    module _ (whole : p + headerLength ≤ length s) where
+      pub headed-short : length s < ruleAt s p .next → headed s p ≡ refuses pastEnd p
+      unfolding headed
+      headed-short h = rw (marked, le-ltb (length s) (p + headerLength) whole, lt-ltb (length s) (ruleAt s p .next) h)
+
+      pub headed-known : ruleAt s p .next ≤ length s → headed s p ≡ known (ruleAt s p) p
+      unfolding headed known
+      headed-known h = rw (marked, le-ltb (length s) (p + headerLength) whole, le-ltb (length s) (ruleAt s p .next) h)
+
+  pub headed-whole : (r : RuleAt) → headed s p ≡ gives r → length s ≤ packageLimit → Whole s r
+  headed-whole r e short =
+      let h = headed-gives s p r e in
+      record { flags = h .flags; expression = h .next; inside = h .fits; limit = short }
+
+module _ (r : RuleAt) (p : ℕ) where
+  pub known-flags : packageFlags < r .flags → known r p ≡ refuses tooManyFlags p
+  unfolding known
+  known-flags h = rw (lt-ltb packageFlags (r .flags) h)
+
+  module _ (few : r .flags ≤ packageFlags) where
+    pub known-stray : strayBit (r .flags) (r .table) ≡ true → known r p ≡ refuses strayTable p
+    unfolding known
+    known-stray e = rw (le-ltb packageFlags (r .flags) few, e)
+
+    pub known-clean : strayBit (r .flags) (r .table) ≡ false → known r p ≡ gives r
+    unfolding known
+    known-clean e = rw (le-ltb packageFlags (r .flags) few, e)
+
+module _ {A : Type 0} (at k p : ℕ) where
+  pub from-differs : k ≡ differs → _≡_ {A = Outcome A} (fromStart at (refuses k p)) (refuses k p)
+  unfolding fromStart
+  from-differs e = rw e
+
+  pub from-costly : k ≡ tooCostly → _≡_ {A = Outcome A} (fromStart at (refuses k p)) (refuses k p)
+  unfolding fromStart
+  from-costly e = rw e
+
+  pub from-bytes : k ≢ differs → k ≢ tooCostly → _≡_ {A = Outcome A} (fromStart at (refuses k p)) (refuses k (at + p))
+  unfolding fromStart
+  from-bytes d c = rw (ne-eqb k differs d, ne-eqb k tooCostly c)
+
+module _ (s : List ℕ) (p : ℕ) where
+  pub read-long : packageLimit < length s → readRule s p ≡ refuses pastEnd 0
+  unfolding readRule
+  read-long h = rw (lt-ltb packageLimit (length s) h)
+
+  module _ (short : length s ≤ packageLimit) where
+    pub read-past : length s ≤ p → readRule s p ≡ gives none
+    unfolding readRule
+    read-past h = rw (le-ltb packageLimit (length s) short, le-ltb p (length s) h)
+
+    pub read-headed : p < length s
+        → readRule s p ≡ (headed s p then (λ r. fromStart (r .start) (examineRule (ruleIn s r)) then (λ c. gives (some r))))
+    unfolding readRule
+    read-headed h = rw (le-ltb packageLimit (length s) short, lt-ltb p (length s) h)
