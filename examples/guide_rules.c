@@ -1,10 +1,12 @@
-/* It lists a rule's monomials, compiles the rule, reads its records, has it examined and asks it about stars. The rule: a star may guide if at least
+/* It lists a rule's monomials, compiles the rule, reads its records, has it examined, asks it about stars and puts it into a package. The rule: a star may guide if at least
    two of three flags are set. It rests on guide_rules.h.
 
    guide_rules.expected is worked by hand from the documents, not written by this program. Document 01's marked row 00010111 gives word, records and
    costs; the definitions give the rest: word 104 has the bits 3, 5 and 6; five records of three bytes and four of two are 23 bytes; VA1 XO AN XO is
    a longest way to the root; the raw form has 11 records; and the row 01111000 first differs from this one at setting 1. Stars 0 to 7 have the
-   settings 0 to 7 and the others setting 0, so by the table the stars 3, 5, 6 and 7 may guide. */
+   settings 0 to 7 and the others setting 0, so by the table the stars 3, 5, 6 and 7 may guide. By request 4 the two rules of the package take 13 bytes
+   more than their expressions, 36 and 26; the table word has the bits 3, 5, 6 and 7, which is 232, and that of 01111000 the bits 1 to 4, which is 30;
+   a package cut in its last rule is refused by 16 at that rule. */
 #include "guide_rules.h"
 
 #include <inttypes.h>
@@ -37,9 +39,11 @@ static const struct {
     uint64_t (*cost)(uint64_t, const uint8_t *, uint64_t, uint64_t *, uint64_t);
     uint64_t (*cheaper)(uint64_t, const uint8_t *, uint64_t, const uint8_t *, uint64_t);
     uint64_t (*examine)(uint64_t, const uint64_t *, uint64_t, const uint8_t *, uint64_t, uint64_t *, uint64_t);
+    uint64_t (*write_package)(uint64_t, uint64_t, const uint8_t *, uint64_t, uint8_t *, uint64_t, uint64_t *, uint64_t);
+    uint64_t (*read_package)(const uint8_t *, uint64_t, uint64_t, uint64_t *, uint64_t);
 } documented = {
-    rule_transform, rule_way_back,       rule_listing, rule_raw_cost, rule_compile, rule_read,
-    rule_evaluate,  rule_evaluate_stars, rule_cost,    rule_cheaper,  rule_examine,
+    rule_transform,      rule_way_back, rule_listing, rule_raw_cost, rule_compile,  rule_read,    rule_evaluate,
+    rule_evaluate_stars, rule_cost,     rule_cheaper, rule_examine,  package_write, package_read,
 };
 
 /* Where the number is a refusal, says so. */
@@ -145,6 +149,47 @@ static void stars_asked(uint64_t words, const uint8_t *bytes, uint64_t length)
     printf("\n");
 }
 
+/* A rule behind those that stand in the package already; returns the length with it, or the old one where it is refused. */
+static uint64_t packed(uint8_t *package, uint64_t length, uint64_t word, const uint8_t *bytes, uint64_t count)
+{
+    uint64_t answer[GUIDE_RULES_ANSWER_LIMIT];
+    uint64_t room = GUIDE_RULES_PACKAGE_LIMIT - length;
+
+    printf("packed: ");
+    if (refused(package_write(FLAGS, word, bytes, count, package + length, room, answer, GUIDE_RULES_ANSWER_LIMIT), answer))
+        return length;
+    printf("%" PRIu64 " bytes\n", answer[0]);
+    return length + answer[0];
+}
+
+static void rules_read(const uint8_t *package, uint64_t length)
+{
+    uint64_t answer[GUIDE_RULES_ANSWER_LIMIT];
+
+    for (uint64_t place = 0;; place = answer[5]) {
+        printf("rule at %" PRIu64 ": ", place);
+        if (refused(package_read(package, length, place, answer, GUIDE_RULES_ANSWER_LIMIT), answer))
+            return;
+        if (answer[0] == GUIDE_RULES_PACKAGE_END)
+            break;
+        printf("flags %" PRIu64 ", table %" PRIu64 ", expression %" PRIu64 " bytes from %" PRIu64 "\n", answer[1], answer[2], answer[4],
+               answer[3]);
+    }
+    printf("the end\n");
+}
+
+/* The compiled rule and the other, and one that contradicts its table. */
+static void package_made(const uint8_t *bytes, uint64_t count)
+{
+    static uint8_t package[GUIDE_RULES_PACKAGE_LIMIT];
+    uint64_t length = packed(package, 0, 232, bytes, count);
+
+    length = packed(package, length, 30, other, sizeof other);
+    length = packed(package, length, 232, other, sizeof other);
+    rules_read(package, length);
+    rules_read(package, length - 1);
+}
+
 int main(void)
 {
     static const char *const cheaper[] = {"refused", "compiled", "raw"};
@@ -174,5 +219,6 @@ int main(void)
     examined("raw", raw, sizeof raw);
     examined("other", other, sizeof other);
     examined("cut", cut, sizeof cut);
+    package_made(compiled, length);
     return 0;
 }

@@ -8,9 +8,13 @@
     stars = guide_rules.star_words(3, [0b000, 0b101, 0b110, 0b011])
     bin(guide_rules.evaluate_stars(3, stars, rule.expression))          # '0b1110': stars 1, 2 and 3
 
+    package = guide_rules.package([(3, "00010111", rule.expression)])
+    guide_rules.rules(package)[0].expression == rule.expression          # True
+
 A table is a string of digits 0 and 1, digit i for setting i, or a sequence of ints, of which bit 0 counts. Coefficients are a
 sequence of 64-bit words, an expression is bytes or anything bytes-like. Stars are a sequence of 64-bit words, one for each
-flag, in which bit j is star j's; star_words makes them from a setting for each star. What a call refuses it raises as Refusal;
+flag, in which bit j is star j's; star_words makes them from a setting for each star. A package is bytes; a rule's table is
+one int there, in which bit s is setting s's. What a call refuses it raises as Refusal;
 a number that does not fit 64 bits is a ValueError.
 
 The shared object is the file that the environment variable GUIDE_RULES_LIBRARY names, and otherwise
@@ -24,13 +28,13 @@ import operator
 import os
 import re
 from pathlib import Path
-from typing import List, NamedTuple, Optional, Sequence, TypeVar, Union
+from typing import Iterable, List, NamedTuple, Optional, Sequence, Tuple, TypeVar, Union
 
 __all__ = [
-    "FLAG_LIMIT", "FORM_FLAG_LIMIT", "RECORD_LIMIT", "BYTE_LIMIT", "STARS",
-    "Refusal", "Listing", "Compilation", "Record", "Costs",
+    "FLAG_LIMIT", "FORM_FLAG_LIMIT", "RECORD_LIMIT", "BYTE_LIMIT", "STARS", "PACKAGE_LIMIT",
+    "Refusal", "Listing", "Compilation", "Record", "Costs", "Rule",
     "transform", "way_back", "listing", "raw_cost", "compile", "read", "records", "evaluate", "evaluate_stars",
-    "cost", "cheaper", "examine", "star_words", "show", "parse",
+    "cost", "cheaper", "examine", "star_words", "show", "parse", "write_rule", "read_rule", "rules", "package",
 ]
 
 FLAG_LIMIT = 6  # flags, of the other calls
@@ -38,12 +42,14 @@ FORM_FLAG_LIMIT = 16  # flags, of transform, way_back and listing
 RECORD_LIMIT = 385  # records of a well-formed expression
 BYTE_LIMIT = 963  # bytes of a compiled expression
 STARS = 64  # stars of a word
+PACKAGE_LIMIT = 65536  # bytes of a package
+_RULE_LIMIT = 13 + BYTE_LIMIT  # bytes of a rule of a package
 
 Table = Union[str, Sequence[int]]
 Expression = Union[bytes, bytearray, memoryview]
 AnyExpression = TypeVar("AnyExpression", bound=Expression)
 
-# the refusals of documents 01 and 02: the condition, and what the place is where it is not always 0
+# the refusals of documents 01 and 02: the condition, and what the place is; None where it is 0, but for a rule that is not a package's first
 _ROWS = {
     1: ("more than 16 flags (transform, way back, listing) or more than 6 (all others)", None),
     2: ("the table has fewer than 2^flags entries", None),
@@ -59,6 +65,9 @@ _ROWS = {
     12: ("differs from the table", "the smallest such setting"),
     13: ("the cost is above the raw cost", "the cost"),
     14: ("fewer words of stars than flags", None),
+    15: ("the mark RU of a rule is wrong or cut", "the rule's first byte"),
+    16: ("a rule's header or expression runs past the end, or the package is over 65,536 bytes", "the rule's first byte, or 0"),
+    17: ("a bit of the table word stands at 2^flags or above", None),
 }
 
 
@@ -72,7 +81,7 @@ class Refusal(Exception):
         self.words = _ROWS[number][0]
 
     def __str__(self) -> str:
-        meaning = _ROWS[self.number][1]
+        meaning = _ROWS[self.number][1] or ("the rule's first byte" if self.place else None)
         return f"refused by {self.number}: {self.words}" + (f"; place {self.place}, {meaning}" if meaning else "")
 
 
@@ -108,9 +117,19 @@ class Costs(NamedTuple):
     depth: int
 
 
+class Rule(NamedTuple):
+    """A rule of a package: its flag count, its table as an int in which bit s is setting s's, its expression, where that starts, and the next place."""
+
+    flags: int
+    table: int
+    expression: bytes
+    start: int
+    next: int
+
+
 _MARKS = ("", "CO", "VA", "AN", "OR", "XO", "NO")
 _WITH_PAYLOAD = ("CO", "VA")
-_ANSWERS = 4
+_ANSWERS = 6
 
 _number = ctypes.c_uint64
 _numbers = ctypes.POINTER(ctypes.c_uint64)
@@ -131,6 +150,8 @@ _ARGUMENTS = {
     "rule_cost": (_number, _bytes, _number, *_answer),
     "rule_cheaper": (_number, _bytes, _number, _bytes, _number),
     "rule_examine": (_number, _numbers, _number, _bytes, _number, *_answer),
+    "package_write": (_number, _number, _bytes, _number, _writable, _number, *_answer),
+    "package_read": (_bytes, _number, _number, *_answer),
 }
 
 
@@ -316,6 +337,51 @@ def star_words(flags: int, settings: Sequence[int]) -> List[int]:
         if setting >= 1 << flags:
             raise ValueError(f"the setting of star {j} is 2^flags or more: {setting}")
     return [sum((setting >> i & 1) << j for j, setting in enumerate(stars)) for i in range(flags)]
+
+
+def _table_word(table: Union[int, Table]) -> int:
+    if isinstance(table, int):
+        return _fitting(table, "table word")
+    entries = _table(table)
+    if len(entries) > 1 << FLAG_LIMIT:
+        raise ValueError(f"a rule's table in a package has at most {1 << FLAG_LIMIT} entries: {len(entries)}")
+    return sum((entry & 1) << setting for setting, entry in enumerate(entries))
+
+
+def write_rule(flags: int, table: Union[int, Table], expression: Expression) -> bytes:
+    """The bytes of a rule of a package, which the examiner accepts. The table is an int, in which bit s is setting s's, or as elsewhere."""
+    data, out = _of(expression), _lent(ctypes.c_uint8, _RULE_LIMIT)
+    written = _call("package_write", _fitting(flags, "flags"), _table_word(table), data, len(data), out, _RULE_LIMIT)[0]
+    return ctypes.string_at(out, written)
+
+
+def _read_rule(data: bytes, place: int) -> Optional[Rule]:
+    kind, flags, table, start, length, following = _call("package_read", data, len(data), place)
+    return Rule(flags, table, data[start:start + length], start, following) if kind else None
+
+
+def read_rule(package: Expression, place: int) -> Optional[Rule]:
+    """The rule that starts at a place of a package, or None at the end. It is one that the examiner accepts against its own table."""
+    return _read_rule(_of(package), _fitting(place, "place"))
+
+
+def rules(package: Expression) -> List[Rule]:
+    """All rules of a package in turn."""
+    data = _of(package)
+    found: List[Rule] = []
+    rule = _read_rule(data, 0)
+    while rule is not None:
+        found.append(rule)
+        rule = _read_rule(data, rule.next)
+    return found
+
+
+def package(rules: Iterable[Tuple[int, Union[int, Table], Expression]]) -> bytes:
+    """The package of these rules, each a flag count, a table and an expression; a ValueError where it would be over 65,536 bytes."""
+    data = b"".join(write_rule(*rule) for rule in rules)
+    if len(data) > PACKAGE_LIMIT:
+        raise ValueError(f"a package has at most {PACKAGE_LIMIT} bytes: {len(data)}")
+    return data
 
 
 def show(expression: Expression) -> str:

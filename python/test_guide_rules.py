@@ -145,6 +145,60 @@ class Rules(unittest.TestCase):
             guide_rules.evaluate_stars(2, [12], b"")
         self.assertEqual(str(caught.exception), "refused by 14: fewer words of stars than flags")
 
+    # request 4 of document 02: "the mark `RU`, one byte of flag count, two bytes of expression length (low byte first), eight
+    # table bytes (low first, bit s for setting s), then the expression"
+    def test_packages(self):
+        expression = parse("VA0 VA1 OR")
+        packed = b"RU\x02\x08\x00\x0e" + bytes(7) + expression
+        for table in ("0111", [0, 1, 1, 1], 0b1110):
+            self.assertEqual(guide_rules.write_rule(2, table, expression), packed)
+        marked = [(len(bits).bit_length() - 1, int(bits[::-1], 2), parse(text)) for bits, _, text, _, _ in MARKED]
+        package = guide_rules.package(marked)
+        self.assertEqual(len(package), sum(13 + len(rule[2]) for rule in marked))
+        rules = guide_rules.rules(package)
+        self.assertEqual([tuple(rule[:3]) for rule in rules], marked)
+        self.assertEqual(guide_rules.package(rule[:3] for rule in rules), package)
+        self.assertEqual(guide_rules.read_rule(packed, 0), (2, 14, expression, 13, 21))
+        self.assertEqual(guide_rules.read_rule(bytearray(b"?" + packed), 1), (2, 14, expression, 14, 22))
+        for place in (21, 22, TOO_LARGE - 1):
+            self.assertIsNone(guide_rules.read_rule(packed, place))
+        self.assertEqual((guide_rules.package([]), guide_rules.rules(b"")), (b"", []))
+        self.assertEqual(len(guide_rules.rules((packed * 3121)[:65520])), 3120)
+
+    def test_package_refusals(self):
+        packed = guide_rules.write_rule(2, "0111", parse("VA0 VA1 OR"))
+        for number, place, damaged in (
+            (15, 21, packed + b"R"),
+            (15, 0, b"UR" + packed[2:]),
+            (16, 21, packed + packed[:12]),
+            (16, 0, packed[:-1]),
+            (16, 0, packed[:2] + b"\x07" + packed[3:-1]),
+            (1, 21, packed + packed[:2] + b"\x07" + packed[3:]),
+            (17, 0, packed[:5] + b"\x1e" + packed[6:]),
+            (17, 0, packed[:12] + b"\x80" + packed[13:]),
+            (12, 0, packed[:5] + b"\x0f" + packed[6:]),
+            (7, 21 + 13 + 3, packed + packed[:-3] + b"\x02OR"),
+            (10, 21 + 13 + 6, packed + b"RU\x02\x06" + packed[4:-2]),
+            (13, 5, b"RU\x01\x0d\0\x02" + bytes(7) + parse("VA0 VA0 AN VA0 AN")),
+            (16, 0, bytes(65537)),
+            (15, 0, bytes(65536)),
+        ):
+            with self.subTest(number=number, place=place):
+                self.refused(number, place, guide_rules.rules, damaged)
+        self.refused(16, 0, guide_rules.read_rule, bytes(65537), 65537)
+        self.refused(1, 0, guide_rules.write_rule, 7, TOO_LARGE - 1, b"")
+        self.refused(17, 0, guide_rules.write_rule, 5, 1 << 32, b"")
+        self.refused(10, 0, guide_rules.write_rule, 6, 1 << 63, b"")
+        self.refused(12, 3, guide_rules.write_rule, 2, "0110", parse("VA0 VA1 OR"))
+        with self.assertRaisesRegex(Refusal, "^refused by 17: a bit of the table word stands at 2\\^flags or above$"):
+            guide_rules.write_rule(0, 2, b"")
+        with self.assertRaisesRegex(Refusal, "^refused by 1: .*; place 21, the rule's first byte$"):
+            guide_rules.rules(packed + packed[:2] + b"\x07" + packed[3:])
+        with self.assertRaises(ValueError):
+            guide_rules.package([(2, "0111", parse("VA0 VA1 OR"))] * 3121)
+        with self.assertRaises(ValueError):
+            guide_rules.write_rule(6, [0] * 65, b"")
+
     def test_costs_and_cheaper(self):
         # worked by hand: an OR is discounted for its first operand alone
         left, right = parse("VA0 VA1 OR VA2 OR"), parse("VA0 VA1 VA2 OR OR")
@@ -233,6 +287,8 @@ class Rules(unittest.TestCase):
             (guide_rules.star_words, (1, "01")),
             (guide_rules.star_words, (1, [0.0])),
             (guide_rules.evaluate_stars, (0, b"1", b"CO\0")),
+            (guide_rules.write_rule, (0, 0.0, b"CO\0")),
+            (guide_rules.rules, ("RU",)),
             (guide_rules.cost, (0, "CO0")),
             (guide_rules.cost, (0, 5)),
             (guide_rules.cost, (0, None)),

@@ -3,6 +3,7 @@
 -- examples.
 use mathlib.Core.Bool.{true, _&&_}
 use mathlib.Core.List.{[], _∷_}
+use mathlib.Core.Option.{none, some}
 use lib.Dec.{T, eqb}
 use Rattle.bits.specs.Range.{same}
 use Rattle.rules.specs.Calls.{compile, costing, read}
@@ -11,7 +12,7 @@ use Rattle.rules.specs.Outcome.{gives, refuses}
 use Rattle.rules.proofs.Answers.{entriesOf, bytesOf}
 use Rattle.rules.proofs.Computing.{computing}
 use Rattle.answer_block.specs.Block.{stored, numbers}
-use Rattle.answer_block.specs.Numbers.{alone, entries, listing, compilation, reading, costs, cheaper}
+use Rattle.answer_block.specs.Numbers.{alone, entries, listing, compilation, reading, packageReading, costs, cheaper}
 
 -- "As many of them are stored as there is room for, and nothing else of the block changes"
 pub block-rows :
@@ -53,6 +54,17 @@ pub reading-rows :
     )
 unfolding computing bytesOf
 reading-rows = tt
+
+-- "the kind, and nothing more at the end; the flag count; the table word; the start of the expression; its length; the next place", and
+-- `enum guide_rules_package_kind`
+pub package-rows :
+    T (
+    same (numbers packageReading (gives (some (record { flags = 2; table = 14; start = 13; length = 8; next = 21 })))) (1 ∷ 2 ∷ 14 ∷ 13 ∷ 8 ∷ 21 ∷ [])
+    && same (numbers packageReading (gives none)) (0 ∷ [])
+    && same (numbers packageReading (refuses 15 21)) (21 ∷ [])
+    )
+unfolding same
+package-rows = tt
 
 -- "Returns 0 where rule_cost refuses n or either expression; else 2 where the second has the smaller size, or the same size and the smaller depth;
 -- else 1"

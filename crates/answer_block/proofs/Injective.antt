@@ -3,6 +3,7 @@
 -- Block and Numbers, and on every refusal's number being above 0 (laws, Numbered).
 --   answer-tells                 == number and block tell the outcome, if the block tells the result
 --   alone-tells, costs-tell      == the block tells a number; cost, size and depth
+--   package-tells                == a rule of a package, or the end
 --   reading-tells                == and a record's kind with payload and next place, or the end
 use mathlib.Core.Bool.{Bool, true, false}
 use mathlib.Core.List.{List, [], _∷_}
@@ -17,9 +18,10 @@ use Rattle.rules.specs.Calls.{Costs}
 use Rattle.rules.specs.Console.{number}
 use Rattle.rules.specs.Outcome.{Outcome, gives, refuses}
 use Rattle.rules.specs.Record.{Kind, Constant, Flag, And, Or, Xor, Not, Found}
+use Rattle.rule_package.specs.Calls.{RuleAt}
 use Rattle.laws.proofs.calls.Numbered.{Numbered}
 use Rattle.answer_block.specs.Block.{stored, numbers}
-use Rattle.answer_block.specs.Numbers.{alone, kindNumber, payload, reading, costs}
+use Rattle.answer_block.specs.Numbers.{alone, kindNumber, payload, reading, packageReading, costs}
 use Rattle.answer_block.proofs.Stored.{stored-same, head-stored}
 
 pub alone-tells : (block : List ℕ) → 0 < length block → (x y : ℕ) → stored block (alone x) ≡ stored block (alone y) → x ≡ y
@@ -94,3 +96,26 @@ reading-tells block h none (some q) e = absurd (omega (arith, not-end block h q 
 reading-tells block h (some r) none e = absurd (omega (arith, not-end block h r (sym e), kind-above (r .kind)))
 reading-tells block h (some r) (some q) e =
     reading-injective (some r) (some q) (stored-same block (reading (some r)) (reading (some q)) refl h e)
+
+-- ---- a rule of a package
+
+abbrev ruleAgain : List ℕ → RuleAt
+ruleAgain l = record { flags = getD l 1 0; table = getD l 2 0; start = getD l 3 0; length = getD l 4 0; next = getD l 5 0 }
+
+rule-again : (r : RuleAt) → ruleAgain (packageReading (some r)) ≡ r
+rule-again r = refl
+
+-- the end is told by its kind, 0, and a rule by 1
+not-rule : (block : List ℕ) → 6 ≤ length block → (r : RuleAt) → stored block (packageReading none) ≡ stored block (packageReading (some r))
+    → _≡_ {A = ℕ} 0 1
+not-rule block h r e =
+    sym (head-stored block 0 [] (omega arith)) ∙ ap (λ (l : List ℕ). getD l 0 0) e ∙ head-stored block 1 _ (omega arith)
+
+pub package-tells : (block : List ℕ) → 6 ≤ length block → (r q : Option RuleAt)
+    → stored block (packageReading r) ≡ stored block (packageReading q) → r ≡ q
+package-tells block h none none e = refl
+package-tells block h none (some q) e = absurd (omega (arith, not-rule block h q e))
+package-tells block h (some r) none e = absurd (omega (arith, not-rule block h r (sym e)))
+package-tells block h (some r) (some q) e =
+    ap some (told-apart (λ x. packageReading (some x)) ruleAgain rule-again r q
+    (stored-same block (packageReading (some r)) (packageReading (some q)) refl h e))

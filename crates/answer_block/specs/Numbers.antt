@@ -1,9 +1,10 @@
 -- The results of the calls for C in numbers, in the order in which they stand in the answer block: what include/guide_rules.h tells with each call.
 --   alone x            == a result that is one number
---   entries l          == of the transform and the way back: how many entries were written
+--   entries l          == of the transform, the way back and the writer of a package: how many entries were written
 --   listing l          == of the listing: the constant, 0 or 1, and the count of monomials
 --   compilation c      == of the compiler: the counts of bytes and records, the cost and the raw cost
 --   reading r          == of the reader: the kind's number, the payload and the next place, or 0 alone at the end
+--   packageReading r   == of the reader of a package: 1, flag count, table word, start and length of the expression and the next place, or 0 alone
 --   costs c            == of costing: cost, size and depth
 --   cheaper n s t      == what `rule_cheaper` returns: 0 where n or either is refused, 1 for the first, 2 for the second
 use mathlib.Core.List.{List, [], _∷_}
@@ -13,11 +14,12 @@ use lib.ListN.{length}
 use Rattle.bits.specs.Bit.{digit}
 use Rattle.rules.specs.Calls.{Listing, Compilation, Costs, parse, cheaperOf}
 use Rattle.rules.specs.Record.{Kind, Constant, Flag, And, Or, Xor, Not, Found}
+use Rattle.rule_package.specs.Calls.{RuleAt}
 
 abbrev pub alone : ℕ → List ℕ
 alone x = x ∷ []
 
--- "words written", "entries written"
+-- "words written", "entries written", "bytes written"
 abbrev pub entries : List ℕ → List ℕ
 entries l = length l ∷ []
 
@@ -51,6 +53,12 @@ payload Not = 0
 abbrev pub reading : Option Found → List ℕ
 reading none = 0 ∷ []
 reading (some r) = kindNumber (r .kind) ∷ payload (r .kind) ∷ r .next ∷ []
+
+-- "the kind, and nothing more at the end; the flag count; the table word; the start of the expression; its length; the next place", and
+-- `enum guide_rules_package_kind`
+abbrev pub packageReading : Option RuleAt → List ℕ
+packageReading none = 0 ∷ []
+packageReading (some r) = 1 ∷ r .flags ∷ r .table ∷ r .start ∷ r .length ∷ r .next ∷ []
 
 -- "cost; size; depth"
 abbrev pub costs : Costs → List ℕ

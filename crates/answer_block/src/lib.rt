@@ -17,7 +17,7 @@ fn put(block: &mut [u64], place: usize, number: u64)
     block[place] = number;
 }
 
-// A result of one number; of two, three and four below.
+// A result of one number; of two to six below.
 pub fn one(block: &mut [u64], first: u64) -> u64
     ensures number { λ r. ⌜ r ≡ 0 ⌝ }
     ensures answer { λ _. ⌜ now (block .exit) ≡ stored (now (block .entry)) (first ∷ []) ⌝ }
@@ -50,6 +50,32 @@ pub fn four(block: &mut [u64], first: u64, second: u64, third: u64, fourth: u64)
 {
     let number = three(block, first, second, third);
     put(block, 3, fourth);
+    number
+}
+
+pub fn five(block: &mut [u64], first: u64, second: u64, third: u64, fourth: u64, fifth: u64) -> u64
+    ensures number { λ r. ⌜ r ≡ 0 ⌝ }
+    ensures answer { λ _. ⌜ now (block .exit) ≡ stored (now (block .entry)) (first ∷ second ∷ third ∷ fourth ∷ fifth ∷ []) ⌝ }
+{
+    let number = four(block, first, second, third, fourth);
+    put(block, 4, fifth);
+    number
+}
+
+pub fn six(
+    block: &mut [u64],
+    first: u64,
+    second: u64,
+    third: u64,
+    fourth: u64,
+    fifth: u64,
+    sixth: u64,
+) -> u64
+    ensures number { λ r. ⌜ r ≡ 0 ⌝ }
+    ensures answer { λ _. ⌜ now (block .exit) ≡ stored (now (block .entry)) (first ∷ second ∷ third ∷ fourth ∷ fifth ∷ sixth ∷ []) ⌝ }
+{
+    let number = five(block, first, second, third, fourth, fifth);
+    put(block, 5, sixth);
     number
 }
 

@@ -1,11 +1,13 @@
 // The whole library for C: every call of the documents as one function, which `include/guide_rules.h` declares. A call returns the refusal's number,
 // 0 for none, and stores its answer at the front of a lent block of 64-bit numbers: the results, or after a refusal the place alone. A static
-// library has the functions of one crate, so they stand here by their names for C; it rests on `c_tables` and `c_expressions`, which answer.
+// library has the functions of one crate, so they stand here by their names for C; it rests on `c_tables`, `c_expressions` and `c_packages`, which
+// answer.
 ghost use mathlib.Core.Path.{_≡_};
 ghost use lib.ListN.{length};
 ghost use Rattle.compiler.specs.Answers.{bytesOf};
 ghost use Rattle.rules.specs.Calls;
 ghost use Rattle.rules.specs.Outcome.{left, gives, _then_};
+ghost use Rattle.rule_package.specs.Calls.{writeRule, readRule};
 ghost use Rattle.answer_block.specs.Block.{Answers};
 ghost use Rattle.answer_block.specs.Numbers as c;
 
@@ -141,4 +143,30 @@ pub extern "C" fn rule_examine(flags: usize, table: &[u64], bytes: &[u8], answer
         (now (answer .entry)) r (now (answer .exit)) ⌝ }
 {
     c_expressions::examine(flags, table, bytes, answer)
+}
+
+// A rule of a package, at the front of `out`.
+#[no_mangle]
+pub extern "C" fn package_write(
+    flags: usize,
+    table: u64,
+    bytes: &[u8],
+    out: &mut [u8],
+    answer: &mut [u64],
+) -> u64
+    ensures lent { λ _. ⌜ now (out .exit) ≡ left (now (out .entry))
+        (writeRule (record { flags = flags; table = table; expression = now (bytes .entry) }) (length (now (out .entry)))) ⌝ }
+    ensures answer { λ r. ⌜ Answers c.entries
+        (writeRule (record { flags = flags; table = table; expression = now (bytes .entry) }) (length (now (out .entry))))
+        (now (answer .entry)) r (now (answer .exit)) ⌝ }
+{
+    c_packages::write(flags, table, bytes, out, answer)
+}
+
+// The rule of a package at a place, or the end.
+#[no_mangle]
+pub extern "C" fn package_read(bytes: &[u8], place: usize, answer: &mut [u64]) -> u64
+    ensures answer { λ r. ⌜ Answers c.packageReading (readRule (now (bytes .entry)) place) (now (answer .entry)) r (now (answer .exit)) ⌝ }
+{
+    c_packages::read(bytes, place, answer)
 }
