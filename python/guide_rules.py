@@ -263,7 +263,7 @@ def compile(flags: int, table: Table) -> Compilation:
     """The table's expression, with its count of records, its cost and the raw cost."""
     flags, entries = _fitting(flags, "flags"), _table(table)
     out = _lent(ctypes.c_uint8, BYTE_LIMIT)
-    written, *counts = _call("rule_compile", flags, *_numbers_of(entries), out, BYTE_LIMIT)
+    written, *counts = _call("rule_compile", flags, *_numbers_of(entries), out, BYTE_LIMIT)[:4]
     return Compilation(ctypes.string_at(out, written), *counts)
 
 
