@@ -7,6 +7,7 @@ use std::time::Instant;
 
 mod calls;
 mod growth;
+mod packages;
 mod raw_costs;
 mod stars;
 
@@ -283,6 +284,7 @@ fn main() {
         Some("growth") => return growth::print(&mut random),
         Some("stars") => return stars::print(&mut random),
         Some("raw_costs") => return raw_costs::print(&mut random),
+        Some("packages") => return packages::print(&mut random),
         _ => {}
     }
     println!("| Call | Inputs | Original, ns | Ours, ns | Ratio of means | Ratio of slowest tenths |");

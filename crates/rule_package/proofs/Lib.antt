@@ -1,3 +1,6 @@
+pub mod Answers
+pub mod BytesRows
+pub mod CallRows
 pub mod Stray
 pub mod Header
 pub mod Stands

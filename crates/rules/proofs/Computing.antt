@@ -21,6 +21,7 @@ use Rattle.rules.specs.Monomial.{form, precedes, insert, ordered}
 use Rattle.rules.specs.Polynomial.{product, polynomial}
 use Rattle.rules.specs.Record.{mark, marked, plain, loaded, recordAt}
 use Rattle.rules.specs.Stars.{starSetting, starValues}
+use Rattle.rules.specs.Table.{wordTable}
 use Rattle.rules.specs.Text.{decimalTurn, decimal, records, report, firstOf, flagsOf, isLine, printedAs, printed}
 use Rattle.rules.specs.Tree.{value, cost, size, depth, write, mentioned}
 
@@ -31,5 +32,5 @@ unfolding bit within below turns fixed from keep all any same sum places word on
     cubeSaving bestCube withRest cubeAt commonCube absorb absorption cheaper contest turn cleanup coefficient wordCount packed stray wordOf words
     entryAt entries chain halves rawForm termCost rawCost binary unary push finish operands run made form precedes insert ordered product polynomial
     mark marked plain loaded recordAt decimalTurn decimal records report firstOf flagsOf isLine printedAs printed value cost size depth write
-    mentioned starSetting starValues evaluateStars
+    mentioned starSetting starValues evaluateStars wordTable
 computing = tt

@@ -1,9 +1,10 @@
--- Rows of tables, coefficients, their words, the polynomial and the order of monomials, computed with the definitions. The values are
--- read from document 01's sentences, which the comments quote, and from its marked rules; nothing here came from a program.
+-- Rows of tables, coefficients, their words, the polynomial and the order of monomials, computed with the definitions. The values are read from
+-- document 01's sentences and request 4's, which the comments quote, and from the marked rules; nothing here came from a program.
 use mathlib.Core.Bool.{Bool, true, false, not, _&&_}
 use mathlib.Core.List.{[], _∷_, map}
 use Prim.Native.Nat.{_^_}
 use lib.Dec.{T, eqb}
+use lib.ListN.{length, getD}
 use Rattle.bits.specs.Bit.{bit, digit}
 use Rattle.bits.specs.Range.{all, same}
 use Rattle.rules.specs.Calls.{transform, wayBack, listing}
@@ -11,7 +12,7 @@ use Rattle.rules.specs.Coefficient.{wordCount, packed, stray, words}
 use Rattle.rules.specs.Limits.{wordBits}
 use Rattle.rules.specs.Monomial.{form, constant, monomials, precedes, insert, ordered}
 use Rattle.rules.specs.Polynomial.{product, polynomial}
-use Rattle.rules.specs.Table.{settings, complete}
+use Rattle.rules.specs.Table.{settings, complete, wordTable}
 use Rattle.rules.proofs.Answers.{entriesOf, isList, isListing}
 use Rattle.rules.proofs.Computing.{computing}
 use Rattle.rules.proofs.Rows.{Row, marked-rows}
@@ -30,6 +31,23 @@ pub table-rows :
     )
 unfolding computing entriesOf
 table-rows = tt
+
+-- request 4 of document 02, of a table word: "bit s for setting s"; the word 14 has the bits 1, 2 and 3, 232 the bits 3, 5, 6 and 7; bits at 2^n and
+-- above are no entries
+pub word-table-rows :
+    T (
+    same (wordTable 2 14) (entriesOf "0111")
+    && same (wordTable 2 1) (entriesOf "1000")
+    && same (wordTable 3 232) (entriesOf "00010111")
+    && same (wordTable 1 14) (entriesOf "01")
+    && same (wordTable 0 1) (entriesOf "1")
+    && same (wordTable 0 6) (entriesOf "0")
+    && eqb (length (wordTable 6 (2 ^ 63))) 64
+    && eqb (getD (wordTable 6 (2 ^ 63)) 63 0) 1
+    && eqb (getD (wordTable 6 (2 ^ 63)) 0 0) 0
+    )
+unfolding computing entriesOf
+word-table-rows = tt
 
 -- ---- coefficient words
 
