@@ -72,6 +72,16 @@ python3 -B "$here/star_cases.py" "$scratch/made"
 compare replay_expressions stars.bin
 compare replay_expressions wrong_stars.bin
 
+python3 -B "$here/package_cases.py" "$scratch/made"
+compare replay_packages full_small.bin
+compare replay_packages full_samples.bin
+compare replay_packages cuts.bin
+compare replay_packages changes.bin
+compare replay_packages edges.bin
+compare replay_packages writings.bin
+compare replay_packages wrong_readings.bin
+compare replay_packages wrong_writings.bin
+
 python3 "$here/printed_transforms.py" "$scratch/made"
 compare replay_transforms printed.bin
 

@@ -1,29 +1,18 @@
 -- Numbers in bytes, low byte first: a number below 256 ^ k and its k bytes tell each other. It rests on quotient and remainder by 256 and on the
 -- library's laws of powers.
---   length-lowBytes, below-lowBytes          == a number's k bytes are k, and each is below 256
 --   lowFirst-limit                           == bytes hold a number below that power of 256
 --   lowFirst-append                          == bytes one after another
 --   lowFirst-lowBytes, lowBytes-lowFirst     == each undoes the other
 use mathlib.Core.List.{List, [], _∷_, _++_}
 use mathlib.Core.Path.{_≡_, refl, ap}
 use Prim.Native.Nat.{ℕ, zero, suc, _+_, _*_, _/_, _^_, _<_}
-use native.Mathlib.Nat.{zero-add, mul-assoc, pow-suc, pow-succ', mod-lt, mod-eq-of-lt, div-eq-of-lt, mod-add-div, div-lt-iff-lt-mul}
+use native.Mathlib.Nat.{zero-add, mul-assoc, pow-suc, pow-succ', mod-eq-of-lt, div-eq-of-lt, mod-add-div, div-lt-iff-lt-mul}
 use native.Mathlib.Nat.{add-mul-div-left, add-mul-mod-self-left}
 use native.Mathlib.Omega.{arith}
 use lib.Dec.{lit<}
 use lib.ListN.{length}
 use Rattle.bits.specs.LowFirst.{lowFirst, lowBytes}
 use Rattle.bits.specs.Range.{Below}
-
-pub length-lowBytes : (k w : ℕ) → length (lowBytes k w) ≡ k
-unfolding lowBytes
-length-lowBytes zero w = refl
-length-lowBytes (suc k) w = ap suc (length-lowBytes k (w / 256))
-
-pub below-lowBytes : (k w : ℕ) → Below 256 (lowBytes k w)
-unfolding lowBytes
-below-lowBytes zero w = tt
-below-lowBytes (suc k) w = (mod-lt w (lit< tt), below-lowBytes k (w / 256))
 
 pub lowFirst-limit : (l : List ℕ) → Below 256 l → lowFirst l < 256 ^ length l
 unfolding lowFirst

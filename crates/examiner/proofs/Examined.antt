@@ -6,6 +6,7 @@
 --   examine-table                  == past those rows, the examination against the table by value
 --   examine-word                   == and against the table that a word holds
 --   examine-walked                 == the examination from the walk's answer with the words of the flags
+--   examine-word-walked            == that against the table that a word holds, from the walk's answer
 --   verdict-costly, verdict-accepts == row 13, and past it, where no setting differs
 use mathlib.Core.Bool.{Bool}
 use mathlib.Core.List.{List, [], _∷_, map}
@@ -23,14 +24,17 @@ use Rattle.rules.specs.Form.{rawCost}
 use Rattle.rules.specs.Limits.{ruleFlags, tooCostly}
 use Rattle.rules.specs.Machine.{made}
 use Rattle.rules.specs.Monomial.{form}
-use Rattle.rules.specs.Outcome.{gives, refuses, _then_}
+use Rattle.rules.specs.Outcome.{Outcome, gives, refuses, _then_}
 use Rattle.rules.specs.Table.{entry, wordTable}
 use Rattle.rules.specs.Tree.{Tree, value, cost}
 use Rattle.laws.proofs.calls.Checked.{table-complete}
 use Rattle.laws.proofs.calls.Outcome.{then-ext, then-then}
 use Rattle.laws.proofs.calls.WordTable.{length-wordTable, entry-wordTable}
 use Rattle.mask_words.specs.Lookup.{flagWord}
+use Rattle.lanes.specs.Answers.{walkedOf}
 use Rattle.lanes.specs.Lanes.{seen}
+use Rattle.lanes.specs.declared.Seen.{Seen}
+use Rattle.lanes.specs.declared.Walked.{Walked}
 use Rattle.table.specs.Truth.{truth, tableOf, first}
 use Rattle.table.specs.declared.Table.{Table}
 use Rattle.table.proofs.Truth.{keep-settings, truth-tableOf, form-ext}
@@ -81,6 +85,11 @@ module _ (n : ℕ) where
         then-ext (made n s) _ _ (λ t. judged-verdict raw t _ ∙ ap (λ (l : List ℕ). verdict raw (cost t) (first l))
         (keep-settings n _ _ (λ at l. ap (λ (b : Bool). b ⊕ f at) (sym (bit-values ws e n at few l t)))))
         ∙ then-then (made n s) _ _
+
+    pub examine-word-walked : (ws : List ℕ) → ws ≡ map flagWord (upto ruleFlags) → (w : ℕ) (s : List ℕ) (o : Walked) → walkedOf o ≡ seen n s ws
+        → examine n (wordTable n w) s ≡ (walkedOf o then (λ v. judgment n (bit w) v))
+    examine-word-walked ws e w s o is =
+        sym (examine-word w s) ∙ examine-walked ws e (bit w) s ∙ ap (λ (x : Outcome Seen). x then (λ v. judgment n (bit w) v)) (sym is)
 
 -- ---- the verdict
 

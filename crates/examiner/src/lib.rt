@@ -58,12 +58,28 @@ pub fn examine_table(flags: usize, table: Table, bytes: &[u8]) -> Examination
     }
 }
 
-// The same against the table that a word holds, bit s for setting s.
-pub fn examine_word(flags: usize, word: u64, bytes: &[u8]) -> Examination
+// The same against the table that a word holds, bit s for setting s: for the reader of a package, and below for the writer. With one caller each,
+// both are inlined there (docs/DECISIONS.md).
+pub fn examine_read(flags: usize, word: u64, bytes: &[u8]) -> Examination
     requires { ⌜ flags ≤ ruleFlags ⌝ }
     ensures { λ r. ⌜ examinationOf r ≡ Calls.examine flags (wordTable flags word) (now (bytes .entry)) ⌝ }
 {
-    examine_table(flags, Table { bits: word }, bytes)
+    let words = table::flag_words();
+    match lanes::walk_read(flags, bytes, &words) {
+        Walked::Values(seen) => judge(flags, Table { bits: word }, seen),
+        Walked::Refused(refusal) => Examination::Refused(refusal),
+    }
+}
+
+pub fn examine_written(flags: usize, word: u64, bytes: &[u8]) -> Examination
+    requires { ⌜ flags ≤ ruleFlags ⌝ }
+    ensures { λ r. ⌜ examinationOf r ≡ Calls.examine flags (wordTable flags word) (now (bytes .entry)) ⌝ }
+{
+    let words = table::flag_words();
+    match lanes::walk_written(flags, bytes, &words) {
+        Walked::Values(seen) => judge(flags, Table { bits: word }, seen),
+        Walked::Refused(refusal) => Examination::Refused(refusal),
+    }
 }
 
 // The verdict on an expression of which the walk saw this.

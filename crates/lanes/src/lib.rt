@@ -51,8 +51,35 @@ pub fn walk(flags: usize, bytes: &[u8], words: &[u64]) -> Walked
     }
 }
 
-// `walk` a second time, for the evaluation for 64 stars alone: with one caller each, both are inlined there (docs/DECISIONS.md).
+// `walk` for other callers, below: the evaluation for 64 stars, and the reader and the writer of a package. With one caller each, all are inlined
+// there (docs/DECISIONS.md).
 pub fn walk_stars(flags: usize, bytes: &[u8], words: &[u64]) -> Walked
+    requires { ⌜ (flags ≤ ruleFlags) × (flags ≤ length (now words)) ⌝ }
+    ensures { λ r. ⌜ walkedOf r ≡ seen flags (now (bytes .entry)) (now (words .entry)) ⌝ }
+{
+    let mut stack = [0u64; 24];
+    let mut ors = [false; 24];
+    let attempt = walk_on(flags, bytes, words, &mut stack, &mut ors);
+    match attempt {
+        Attempt::Done(walked) => walked,
+        Attempt::Full => walk_deep(flags, bytes, words),
+    }
+}
+
+pub fn walk_read(flags: usize, bytes: &[u8], words: &[u64]) -> Walked
+    requires { ⌜ (flags ≤ ruleFlags) × (flags ≤ length (now words)) ⌝ }
+    ensures { λ r. ⌜ walkedOf r ≡ seen flags (now (bytes .entry)) (now (words .entry)) ⌝ }
+{
+    let mut stack = [0u64; 24];
+    let mut ors = [false; 24];
+    let attempt = walk_on(flags, bytes, words, &mut stack, &mut ors);
+    match attempt {
+        Attempt::Done(walked) => walked,
+        Attempt::Full => walk_deep(flags, bytes, words),
+    }
+}
+
+pub fn walk_written(flags: usize, bytes: &[u8], words: &[u64]) -> Walked
     requires { ⌜ (flags ≤ ruleFlags) × (flags ≤ length (now words)) ⌝ }
     ensures { λ r. ⌜ walkedOf r ≡ seen flags (now (bytes .entry)) (now (words .entry)) ⌝ }
 {

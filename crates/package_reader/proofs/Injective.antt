@@ -6,7 +6,6 @@ use Rattle.bits.proofs.Injective.{told-apart}
 use Rattle.rules.specs.Outcome.{Outcome, gives, refuses}
 use Rattle.rule_package.specs.Calls.{RuleAt}
 use Rattle.package_reader.specs.Answers.{ruleReadingOf}
-use Rattle.package_reader.specs.declared.Rule.{Rule}
 use Rattle.package_reader.specs.declared.RuleReading.{RuleReading}
 use Rattle.package_reader.specs.declared.RuleReading.the-variants.{Found, End, Refused}
 

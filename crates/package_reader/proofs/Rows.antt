@@ -1,5 +1,5 @@
--- The reader row by row: the mark, the bytes that are there, the flag count and the table; before them the package's length and the end, and behind them
--- the places of the examination. It rests on the definitions of rule_package, and for what a header
+-- The reader row by row: the mark, the bytes that are there, the flag count and the table; before them the package's length and the end, and behind
+-- them the places of the examination. It rests on the definitions of rule_package, and for what a header
 -- tells on its Stands.
 --   marked-cut, marked-whole                     == a mark that is cut, and one byte by byte
 --   headed-mark, headed-cut, headed-short        == 15, and 16 for the header and for the expression
@@ -33,12 +33,16 @@ use Rattle.package_reader.specs.Inner.{known, Whole}
 module _ (s : List ℕ) (p : ℕ) where
   pub marked-cut : length s < p + 2 → same (part s p 2) (ascii "RU") ≡ false
   unfolding ascii
-  marked-cut h = eq-false-of-not-eq-true (λ e. omega (arith, ap length (same-true (part s p 2) (ascii "RU") e), length-take 2 (drop p s), length-drop p s))
+  marked-cut h = eq-false-of-not-eq-true (λ e.
+      let two = ap length (same-true (part s p 2) (ascii "RU") e) in
+      omega (arith, two, length-take 2 (drop p s), length-drop p s))
 
   pub marked-whole : p + 2 ≤ length s → same (part s p 2) (ascii "RU") ≡ eqb (getD s p 0) 82 && eqb (getD s (p + 1) 0) 85
   unfolding ascii same
   marked-whole h =
-      ap (λ (l : List ℕ). same l (ascii "RU")) (part-add s p 1 1 ∙ ap₂ (λ (a b : List ℕ). a ++ b) (part-one s p (omega arith)) (part-one s (p + 1) (omega arith)))
+      let first = part-one s p (omega arith) in
+      let second = part-one s (p + 1) (omega arith) in
+      ap (λ (l : List ℕ). same l (ascii "RU")) (part-add s p 1 1 ∙ ap₂ (λ (a b : List ℕ). a ++ b) first second)
       ∙ ap (λ (b : Bool). eqb (getD s p 0) 82 && b) (and-true (eqb (getD s (p + 1) 0) 85))
 
   pub headed-mark : same (part s p 2) (ascii "RU") ≡ false → headed s p ≡ refuses badRuleMark p

@@ -14,7 +14,7 @@ ghost use Prim.Native.Nat.{_+_, _≤_, _<_};
 ghost use lib.ListN.{length};
 ghost use Rattle.bits.specs.Range.{same};
 ghost use Rattle.rules.specs.Ascii.{ascii};
-ghost use Rattle.rules.specs.Limits.{packageFlags, packageLimit};
+ghost use Rattle.rules.specs.Limits.{packageLimit};
 ghost use Rattle.rule_package.specs.Calls.{part, ruleAt, headed};
 ghost use Rattle.rule_package.specs.Rule.{headerLength};
 ghost use Rattle.package_reader.specs.Answers.{ruleOf};

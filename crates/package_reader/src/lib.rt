@@ -64,7 +64,7 @@ fn examined(bytes: &[u8], rule: Rule) -> RuleReading
 {
     let start = rule.start;
     let next = rule.next;
-    let examination = examiner::examine_word(rule.flags, rule.table, &bytes[start..next]);
+    let examination = examiner::examine_read(rule.flags, rule.table, &bytes[start..next]);
     match examination {
         Examination::Accepted(_) => RuleReading::Found(rule),
         Examination::Refused(refusal) => RuleReading::Refused(from_start(start, refusal)),

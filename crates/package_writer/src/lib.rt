@@ -44,7 +44,7 @@ pub fn write_rule(flags: usize, table: u64, expression: &[u8], out: &mut [u8]) -
     if rule_package::is_stray(flags, table) {
         return refused(STRAY_TABLE, 0);
     }
-    let examination = examiner::examine_word(flags, table, expression);
+    let examination = examiner::examine_written(flags, table, expression);
     match examination {
         Examination::Accepted(_) => put(flags, table, expression, out),
         Examination::Refused(refusal) => Writing::Refused(refusal),

@@ -19,17 +19,17 @@ use Rattle.package_reader.specs.Answers.{ruleOf}
 use Rattle.package_reader.proofs.examined.Statement.{statement}
 use Rattle.package_reader.proofs.examined.Tie as tie
 
-sub-examine-word : tie.Need-sub-examine-word
-sub-examine-word c = search needs
+sub-examine-read : tie.Need-sub-examine-read
+sub-examine-read c = search needs
 
-part-examine-word-start : tie.Need-part-examine-word-start
-part-examine-word-start c = search needs
+part-examine-read-start : tie.Need-part-examine-read-start
+part-examine-read-start c = search needs
 
-part-examine-word-end : tie.Need-part-examine-word-end
-part-examine-word-end c = search needs
+part-examine-read-end : tie.Need-part-examine-read-end
+part-examine-read-end c = search needs
 
-examine-word-requires : tie.Need-examine-word-requires
-examine-word-requires c κs = search needs
+examine-read-requires : tie.Need-examine-read-requires
+examine-read-requires c κs = search needs
 
 enum-told : tie.Need-enum-told
 enum-told c = search needs
@@ -41,7 +41,7 @@ enum-known-examination c = search needs
 abbrev rule : tie.Start → RuleAt
 rule s = ruleOf (s .args .rule)
 
-told : (c : tie.After-examine-word) (e : Examination) → c .examine-word .result ≡ e
+told : (c : tie.After-examine-read) (e : Examination) → c .examine-read .result ≡ e
     → (let s = c .before .before .before in examineRule (ruleIn (now (s .args .bytes)) (rule s)) ≡ examinationOf e)
 unfolding examineRule ruleIn
 told c e q =
@@ -49,7 +49,7 @@ told c e q =
     let r = rule s in
     let size : r .next - r .start ≡ r .length = omega (arith, s .pre .expression) in
     ap (λ (k : ℕ). examine (r .flags) (wordTable (r .flags) (r .table)) (part (now (s .args .bytes)) (r .start) k)) (sym size)
-    ∙ sym (c .examine-word .ensures) ∙ ap examinationOf q
+    ∙ sym (c .examine-read .ensures) ∙ ap examinationOf q
 
 from-start-requires : tie.Need-from-start-requires
 unfolding examineRule ruleIn
@@ -82,10 +82,10 @@ pub examined-spec : {M : Type 1} → statement M
 examined-spec =
     tie.close
     (tie.spec
-    sub-examine-word
-    part-examine-word-start
-    part-examine-word-end
-    examine-word-requires
+    sub-examine-read
+    part-examine-read-start
+    part-examine-read-end
+    examine-read-requires
     enum-told
     enum-known-examination
     from-start-requires

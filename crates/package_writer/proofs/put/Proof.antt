@@ -35,8 +35,10 @@ returns : tie.Need-returns
 unfolding fill
 returns c =
     let s = c .before .before .before .before in
-    let short = room-short (length (s .args .out .now)) (ruleBytes (rule s)) (gives (ruleBytes (rule s))) (omega (arith, length-ruleBytes (rule s))) in
-    told-refusal (s .args .out .now) _ _ shortOutput _ (c .refused .ensures) (short ∙ ap {B = Outcome (List ℕ)} (refuses shortOutput) (length-ruleBytes (rule s)))
+    let l = ruleBytes (rule s) in
+    let size = length-ruleBytes (rule s) in
+    let short = room-short (length (s .args .out .now)) l (gives l) (omega (arith, size)) in
+    told-refusal (s .args .out .now) _ _ shortOutput _ (c .refused .ensures) (short ∙ ap {B = Outcome (List ℕ)} (refuses shortOutput) size)
 
 cast-put-header : tie.Need-cast-put-header
 cast-put-header c = search needs

@@ -1,5 +1,5 @@
--- `package_writer::write_rule` meets its contract: rows 1 and 17, the examination, and then the rule's bytes. From Rows; that the length of an accepted
--- expression fits its two bytes is a law of rule_package (Sound).
+-- `package_writer::write_rule` meets its contract: rows 1 and 17, the examination, and then the rule's bytes. From Rows; that the length of an
+-- accepted expression fits two bytes is a law of rule_package (rule_package, Sound).
 use mathlib.Core.Path.{_≡_, sym, ap, _∙_}
 use Prim.Native.Nat.{ℕ}
 use native.Mathlib.Omega.{arith}
@@ -43,19 +43,19 @@ returns-2 c =
     told-refusal (s .args .out .now) _ _ strayTable 0 (c .refused2 .ensures)
     (write-stray (rule s) _ (tested .before .if1 .left) (sym (tested .is-stray .ensures) ∙ c .before .if2 .taken))
 
-examine-word-requires : tie.Need-examine-word-requires
-examine-word-requires c κs = search needs
+examine-written-requires : tie.Need-examine-written-requires
+examine-written-requires c κs = search needs
 
 -- where the call began, once the rule is examined
-abbrev start : tie.After-examine-word → tie.Start
+abbrev start : tie.After-examine-written → tie.Start
 start c = c .before .before .before .before .before .before
 
 -- the examination on paper, and from it the call
-examined : (c : tie.After-examine-word) (e : Examination) → c .examine-word .result ≡ e → examineRule (rule (start c)) ≡ examinationOf e
+examined : (c : tie.After-examine-written) (e : Examination) → c .examine-written .result ≡ e → examineRule (rule (start c)) ≡ examinationOf e
 unfolding examineRule
-examined c e q = sym (c .examine-word .ensures) ∙ ap examinationOf q
+examined c e q = sym (c .examine-written .ensures) ∙ ap examinationOf q
 
-written : (c : tie.After-examine-word) (room : ℕ) (o : Outcome ℕ) → examineRule (rule (start c)) ≡ o
+written : (c : tie.After-examine-written) (room : ℕ) (o : Outcome ℕ) → examineRule (rule (start c)) ≡ o
     → writeRule (rule (start c)) room ≡ (o then (λ k. fill room (ruleBytes (rule (start c)))))
 written c room o e =
     let tested = c .before .before in
@@ -104,7 +104,7 @@ write-rule-spec =
     is-stray-requires
     refused-requires-2
     returns-2
-    examine-word-requires
+    examine-written-requires
     enum-told
     put-requires
     enum-known-examination

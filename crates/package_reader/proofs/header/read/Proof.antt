@@ -24,7 +24,8 @@ returns : tie.Need-returns
 returns c =
     let tested = c .before .before in
     let a = tested .before .before .args in
-    ap headerOf (c .refused .ensures) ∙ sym (headed-mark (now (a .bytes)) (a .place) (sym (tested .is-marked .ensures) ∙ not-true (tested .is-marked .result) (c .before .if1 .taken)))
+    let unmarked = sym (tested .is-marked .ensures) ∙ not-true (tested .is-marked .result) (c .before .if1 .taken) in
+    ap headerOf (c .refused .ensures) ∙ sym (headed-mark (now (a .bytes)) (a .place) unmarked)
 
 -- the mark stands there
 is-marked : (c : tie.Else1) → (let a = c .before .before .before .args in same (part (now (a .bytes)) (a .place) 2) (ascii "RU") ≡ true)

@@ -1,7 +1,7 @@
 -- `package_writer::bytes::put_header` meets its contract: three bytes and two numbers, one after the other. From the law of a run after a run (bits,
 -- Stores).
 use mathlib.Core.List.{List}
-use mathlib.Core.Path.{_≡_, ap, sym, _∙_}
+use mathlib.Core.Path.{_≡_, ap, _∙_}
 use Prim.Native.Nat.{ℕ}
 use native.Mathlib.Omega.{arith}
 use lib.ListN.{length, set, length-set}
