@@ -1,6 +1,6 @@
 #!/bin/sh
 # Measures the library beside the original Rust, on the same inputs in one process, and writes the table of ratios, 64 stars in one call, raw costing,
-# the growth of each call, its stack and the code's size to docs/BENCHMARK.md.
+# packages, the growth of each call, its stack and the code's size to docs/BENCHMARK.md.
 # Use: bench/bench.sh RUST_DIR. It rests on oracle/build.sh, rustc, cc, objcopy, size and rt.
 set -eu
 
@@ -26,6 +26,7 @@ rustc --edition 2021 -C opt-level=3 --crate-name bench --extern original="$scrat
 "$scratch/bench" >"$scratch/table.md"
 "$scratch/bench" stars >"$scratch/stars.md"
 "$scratch/bench" raw_costs >"$scratch/raw_costs.md"
+"$scratch/bench" packages >"$scratch/packages.md"
 "$scratch/bench" growth >"$scratch/growth.md"
 cc -O2 -std=c99 -Wall -Wextra -Werror -I"$here/include" "$here/bench/stack.c" "$here/target/staticlib/libguide_rules.a" -o "$scratch/stack"
 "$scratch/stack" >"$scratch/stack.md"
@@ -49,6 +50,8 @@ END
     cat "$scratch/stars.md"
     printf '\n## Raw costing\n\nThe coefficients of 60 random tables. The original lists and sorts the monomials of the coefficients and then adds up what they cost; the library walks the coefficients and makes no list. The sum alone is that of a list that stands in memory already. Before they are measured, the costs of all forms are compared with those of the original.\n\n'
     cat "$scratch/raw_costs.md"
+    printf '\n## Packages\n\nA package of rules of random tables, as many as 65,536 bytes have room for, with the expressions that the original gives: all its rules read one after the other, beside the examination of its expressions alone, each against its table in memory. MB are millions of bytes of the package, headers included, in both columns. An examination packs the entries of its table, which a rule of a package has as a word. Before they are measured, the rules that are read are counted.\n\n'
+    cat "$scratch/packages.md"
     printf '\n## Growth\n\nOurs alone: the least of 25 rounds, over random tables of that many flags, or one expression of that many records of six flags.\n\n'
     cat "$scratch/growth.md"
     printf '\n## Memory and code\n\nStack, by painting a stack of its own for each call and looking for the lowest byte that changed. No call allocates.\n\n'

@@ -14,7 +14,7 @@ enum { STACK = 1 << 18, PAINT = 0xa5, FLAGS = 16, SETTINGS = 1 << FLAGS, RECORDS
 static uint8_t stack[STACK];
 static uint64_t table[SETTINGS], words[SETTINGS / 64], entries[SETTINGS], answer[GUIDE_RULES_ANSWER_LIMIT];
 static uint32_t masks[SETTINGS];
-static uint8_t bytes[1200], written[GUIDE_RULES_BYTE_LIMIT];
+static uint8_t bytes[1200], written[GUIDE_RULES_BYTE_LIMIT], package[1213] = {'R', 'U', 6}, rule[GUIDE_RULES_RULE_LIMIT];
 static size_t length;
 static ucontext_t here, there;
 
@@ -28,6 +28,8 @@ static void costing(void) { rule_cost(6, bytes, length, answer, GUIDE_RULES_ANSW
 static void evaluate(void) { rule_evaluate(6, bytes, length, 37, answer, GUIDE_RULES_ANSWER_LIMIT); }
 static void evaluate_stars(void) { rule_evaluate_stars(6, table, 6, bytes, length, answer, GUIDE_RULES_ANSWER_LIMIT); }
 static void examine(void) { rule_examine(6, table, 64, bytes, length, answer, GUIDE_RULES_ANSWER_LIMIT); }
+static void package_reading(void) { package_read(package, 13 + length, 0, answer, GUIDE_RULES_ANSWER_LIMIT); }
+static void package_writing(void) { package_write(6, 0, bytes, length, rule, sizeof rule, answer, GUIDE_RULES_ANSWER_LIMIT); }
 
 static size_t used(void (*call)(void))
 {
@@ -85,5 +87,9 @@ int main(void)
     row("evaluation", "385 records, 193 operands deep", used(evaluate));
     row("64 stars", "385 records, 193 operands deep", used(evaluate_stars));
     row("examination", "385 records, 193 operands deep", used(examine));
+    package[3] = (uint8_t)length, package[4] = (uint8_t)(length >> 8);
+    memcpy(package + 13, bytes, length);
+    row("reading a rule of a package", "385 records, 193 operands deep", used(package_reading));
+    row("writing a rule of a package", "385 records, 193 operands deep", used(package_writing));
     return 0;
 }
