@@ -22,10 +22,10 @@
    raw form      the XOR of constant and monomials, each monomial the AND of its flags. Its cost, the raw cost, is 1 with no term, and otherwise the
                  sum of 2k - 1 for each monomial of k flags, 1 for a constant 1, and one less than the number of terms
 
-   table word    a table of at most six flags as one number: bit s is the rule's bit at setting s
-   rule          of a package, bytes: the mark RU, one byte of flag count, two bytes of the expression's length, eight bytes of its table word, both low
-                 byte first, and then the expression
-   package       bytes: rules end to end, at most 65,536 bytes; none is a valid count of rules
+   table word    a table of at most six flags as one number: bit s is the rule's bit at setting s; bits at 2^n and above are refused by 17
+   rule          of a package, bytes: the mark RU, one byte of flag count, two bytes of the expression's length and eight of its table word, both low
+                 byte first, and then the expression; so 13 bytes and the expression
+   package       bytes: rules end to end, at most 65,536 bytes; no bytes are a package of no rules
 
    How a call answers
 
@@ -39,8 +39,8 @@
      16       a package of more than 65,536 bytes                                           0
      15       the mark RU is wrong or cut (package_read)                                    the rule's first byte
      16       a rule's header or expression runs past the package's end                     the rule's first byte
-      1       more than 16 flags (transform, way back, listing), more than 6 (all others)   0; in a package the rule's first byte
-     17       a bit of the table word at 2^n or above                                       0; in a package the rule's first byte
+      1       more than 16 flags (transform, way back, listing), more than 6 (all others)   0; of package_read the rule's first byte
+     17       a bit of the table word at 2^n or above                                       0; of package_read the rule's first byte
       2       a table of fewer than 2^n entries                                             0
       3       fewer words of coefficients than needed                                       0
       4       a coefficient of 1 at 2^n or above in the needed words                        0
@@ -55,7 +55,8 @@
      13       the cost is above the cost of the table's raw form                            the cost
       5       an output shorter than the result                                             the length needed, in the output's own entries
 
-   9, 6, 7 and 8 run record by record, before 10. Where package_read gives the place of 6 to 10, that is counted from the package's first byte.
+   9, 6, 7 and 8 run record by record, before 10. package_read gives the places of 6 to 9 as bytes of the package, and that of 10 as the byte after the
+   expression; those of 12 and 13 stay a setting and a cost. Its 16 at place 0 is the first rule's where the package has at most 65,536 bytes.
 
    Lent memory
 
@@ -80,9 +81,10 @@ enum guide_rules_limit {
     GUIDE_RULES_FLAG_LIMIT = 6,       /* flags, of all other calls */
     GUIDE_RULES_FORM_FLAG_LIMIT = 16, /* flags, of rule_transform, rule_way_back and rule_listing */
     GUIDE_RULES_RECORD_LIMIT = 385,   /* records of a well-formed expression */
-    GUIDE_RULES_BYTE_LIMIT = 963,     /* bytes of a compiled expression */
+    GUIDE_RULES_BYTE_LIMIT = 963,     /* bytes of a well-formed expression, so of a compiled one */
     GUIDE_RULES_PACKAGE_LIMIT = 65536, /* bytes of a package */
-    GUIDE_RULES_RULE_LIMIT = 976,     /* bytes of a rule of a package: 13 and an expression's at most 963 */
+    GUIDE_RULES_HEADER_LENGTH = 13,   /* bytes of a rule of a package before its expression */
+    GUIDE_RULES_RULE_LIMIT = 976,     /* bytes of a rule of a package */
     GUIDE_RULES_ANSWER_LIMIT = 6      /* results of a call */
 };
 
@@ -104,7 +106,7 @@ enum guide_rules_refusal {
     GUIDE_RULES_SHORT_STARS = 14,
     GUIDE_RULES_BAD_RULE_MARK = 15,
     GUIDE_RULES_PAST_END = 16,
-    GUIDE_RULES_STRAY_TABLE = 17
+    GUIDE_RULES_STRAY_TABLE_BIT = 17
 };
 
 /* What rule_read finds. */
@@ -187,18 +189,20 @@ uint64_t rule_cheaper(uint64_t flags, const uint8_t *first, uint64_t first_lengt
 uint64_t rule_examine(uint64_t flags, const uint64_t *table, uint64_t entries, const uint8_t *bytes, uint64_t length, uint64_t *answer,
                       uint64_t answers);
 
-/* The writer of a package: one rule, with that table word and that expression, at the front of `out`. Rules written one behind the other, in at most
-   GUIDE_RULES_PACKAGE_LIMIT bytes in all, are a package; GUIDE_RULES_RULE_LIMIT bytes suffice for one rule.
+/* The writer of a package: one rule, with that table word and that expression, at the front of `out`. GUIDE_RULES_RULE_LIMIT bytes suffice. To put a
+   rule behind `length` bytes of rules, lend `package + length` with GUIDE_RULES_PACKAGE_LIMIT - length bytes, and add the result to `length`; 5 then
+   says that the package is full. With more room lent nothing tells that it becomes too long, until package_read refuses it.
    Refuses by 1 (6 flags), 17, then as rule_examine does against the word's table: by 9, 6, 7, 8 record by record, then 10, 12, 13, with places in the
    expression; then by 5. Result: bytes written. */
 uint64_t package_write(uint64_t flags, uint64_t table, const uint8_t *bytes, uint64_t length, uint8_t *out, uint64_t out_bytes, uint64_t *answer,
                        uint64_t answers);
 
-/* The rule that starts at a place of a package, or the end at any place from the length on. The next place is the byte after the rule; a walk over all
-   rules starts at 0. A rule that is given is one that rule_examine accepts against its own table.
-   Refuses by 16 for the package's length, and unless the place is the end by 15, 16, 1 (6 flags), 17 at the place asked for, then as rule_examine does
-   against the rule's table. Results: the kind, and nothing more at the end; the flag count; the table word; the start of the expression; its length;
-   the next place. */
+/* The reader of a package: the rule that starts at a place, or the end at any place from the length on; a walk over all rules starts at 0 and goes on
+   at the next place. A rule that is given is one that rule_examine accepts against its own table. Its expression is as many bytes as its length says
+   from `package` + its start on, and is evaluated with its flag count. (rule_read gives a record of an expression.)
+   Refuses by 16 for the package's length, also at the end; then, where a byte is left at the place, by 15, 16, 1 (6 flags), 17 at that place, then as
+   rule_examine does against the rule's table. Results: the kind, and nothing more at the end; the flag count; the table word; the start of the
+   expression; its length; the next place. */
 uint64_t package_read(const uint8_t *package, uint64_t length, uint64_t place, uint64_t *answer, uint64_t answers);
 
 #ifdef __cplusplus

@@ -9,7 +9,7 @@
     bin(guide_rules.evaluate_stars(3, stars, rule.expression))          # '0b1110': stars 1, 2 and 3
 
     package = guide_rules.package([(3, "00010111", rule.expression)])
-    guide_rules.rules(package)[0].expression == rule.expression          # True
+    guide_rules.rules(package)[0].expression == rule.expression         # True
 
 A table is a string of digits 0 and 1, digit i for setting i, or a sequence of ints, of which bit 0 counts. Coefficients are a
 sequence of 64-bit words, an expression is bytes or anything bytes-like. Stars are a sequence of 64-bit words, one for each
@@ -49,7 +49,7 @@ Table = Union[str, Sequence[int]]
 Expression = Union[bytes, bytearray, memoryview]
 AnyExpression = TypeVar("AnyExpression", bound=Expression)
 
-# the refusals of documents 01 and 02: the condition, and what the place is; None where it is 0, but for a rule that is not a package's first
+# the refusals of documents 01 and 02: the condition, and what the place is; None where it is 0, or the first byte of a package's rule
 _ROWS = {
     1: ("more than 16 flags (transform, way back, listing) or more than 6 (all others)", None),
     2: ("the table has fewer than 2^flags entries", None),
@@ -60,13 +60,13 @@ _ROWS = {
     7: ("the payload is absent, a constant above 1, or a flag index that is not below flags", "the record's first byte"),
     8: ("too few operands", "the record's first byte"),
     9: ("a 386th record begins", "its first byte"),
-    10: ("no bytes, or more than one operand left at the end", "the length"),
+    10: ("no bytes, or more than one operand left at the end", "the byte after the expression"),
     11: ("the setting is 2^flags or more", None),
     12: ("differs from the table", "the smallest such setting"),
     13: ("the cost is above the raw cost", "the cost"),
     14: ("fewer words of stars than flags", None),
     15: ("the mark RU of a rule is wrong or cut", "the rule's first byte"),
-    16: ("a rule's header or expression runs past the end, or the package is over 65,536 bytes", "the rule's first byte, or 0"),
+    16: ("a rule's header or expression runs past the end, or the package is over 65,536 bytes", "the rule's first byte; 0 for the package"),
     17: ("a bit of the table word stands at 2^flags or above", None),
 }
 
@@ -204,9 +204,9 @@ def _lent(kind, count: int, values: Sequence[int] = ()):
     return (kind * max(count, 1))(*values)
 
 
-def _of(expression: Expression) -> bytes:
+def _of(expression: Expression, name: str = "an expression") -> bytes:
     if isinstance(expression, str):
-        raise TypeError("an expression is bytes, not a string; parse makes them from 'VA0 VA1 OR'")
+        raise TypeError(f"{name} is bytes, not a string; parse makes an expression from 'VA0 VA1 OR'")
     return expression if type(expression) is bytes else memoryview(expression).tobytes()
 
 
@@ -339,19 +339,23 @@ def star_words(flags: int, settings: Sequence[int]) -> List[int]:
     return [sum((setting >> i & 1) << j for j, setting in enumerate(stars)) for i in range(flags)]
 
 
-def _table_word(table: Union[int, Table]) -> int:
+def _table_word(flags: int, table: Union[int, Table]) -> int:
     if isinstance(table, int):
         return _fitting(table, "table word")
     entries = _table(table)
-    if len(entries) > 1 << FLAG_LIMIT:
-        raise ValueError(f"a rule's table in a package has at most {1 << FLAG_LIMIT} entries: {len(entries)}")
-    return sum((entry & 1) << setting for setting, entry in enumerate(entries))
+    settings = _settings(flags, FLAG_LIMIT)
+    if len(entries) < settings:
+        raise Refusal(2, 0)
+    return sum((entry & 1) << setting for setting, entry in enumerate(entries[:settings]))
 
 
 def write_rule(flags: int, table: Union[int, Table], expression: Expression) -> bytes:
-    """The bytes of a rule of a package, which the examiner accepts. The table is an int, in which bit s is setting s's, or as elsewhere."""
-    data, out = _of(expression), _lent(ctypes.c_uint8, _RULE_LIMIT)
-    written = _call("package_write", _fitting(flags, "flags"), _table_word(table), data, len(data), out, _RULE_LIMIT)[0]
+    """The bytes of one rule of a package (package_write in C); a Refusal where the examiner would refuse the expression.
+
+    The table is an int, in which bit s is setting s's, or a table as elsewhere.
+    """
+    flags, data, out = _fitting(flags, "flags"), _of(expression), _lent(ctypes.c_uint8, _RULE_LIMIT)
+    written = _call("package_write", flags, _table_word(flags, table), data, len(data), out, _RULE_LIMIT)[0]
     return ctypes.string_at(out, written)
 
 
@@ -361,13 +365,16 @@ def _read_rule(data: bytes, place: int) -> Optional[Rule]:
 
 
 def read_rule(package: Expression, place: int) -> Optional[Rule]:
-    """The rule that starts at a place of a package, or None at the end. It is one that the examiner accepts against its own table."""
-    return _read_rule(_of(package), _fitting(place, "place"))
+    """The rule that starts at a place of a package (package_read in C), or None at the end.
+
+    It is one that the examiner accepts against its own table. A record of an expression is given by read.
+    """
+    return _read_rule(_of(package, "a package"), _fitting(place, "place"))
 
 
 def rules(package: Expression) -> List[Rule]:
-    """All rules of a package in turn."""
-    data = _of(package)
+    """All rules of a package in turn. A rule that is refused raises; read_rule, from next to next, gives those before it."""
+    data = _of(package, "a package")
     found: List[Rule] = []
     rule = _read_rule(data, 0)
     while rule is not None:
@@ -376,9 +383,12 @@ def rules(package: Expression) -> List[Rule]:
     return found
 
 
-def package(rules: Iterable[Tuple[int, Union[int, Table], Expression]]) -> bytes:
-    """The package of these rules, each a flag count, a table and an expression; a ValueError where it would be over 65,536 bytes."""
-    data = b"".join(write_rule(*rule) for rule in rules)
+def package(rules: Iterable[Union[Rule, Tuple[int, Union[int, Table], Expression]]]) -> bytes:
+    """The package of these rules, each a flag count, a table and an expression, or a Rule that was read.
+
+    A ValueError where it would be over 65,536 bytes.
+    """
+    data = b"".join(write_rule(*tuple(rule)[:3]) for rule in rules)
     if len(data) > PACKAGE_LIMIT:
         raise ValueError(f"a package has at most {PACKAGE_LIMIT} bytes: {len(data)}")
     return data

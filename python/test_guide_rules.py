@@ -157,7 +157,13 @@ class Rules(unittest.TestCase):
         self.assertEqual(len(package), sum(13 + len(rule[2]) for rule in marked))
         rules = guide_rules.rules(package)
         self.assertEqual([tuple(rule[:3]) for rule in rules], marked)
-        self.assertEqual(guide_rules.package(rule[:3] for rule in rules), package)
+        self.assertEqual(guide_rules.package(rules), package)
+        # a table as elsewhere: entries past 2^flags are ignored, and fewer are refused by 2, after more than six flags by 1
+        self.assertEqual(guide_rules.write_rule(1, "01" + "1" * 70, parse("VA0")), guide_rules.write_rule(1, 2, parse("VA0")))
+        self.refused(2, 0, guide_rules.write_rule, 2, "010", parse("VA0"))
+        self.refused(2, 0, guide_rules.write_rule, 0, "", parse("CO0"))
+        self.refused(1, 0, guide_rules.write_rule, 7, "0" * 128, parse("CO0"))
+        self.refused(1, 0, guide_rules.write_rule, 7, "", parse("CO0"))
         self.assertEqual(guide_rules.read_rule(packed, 0), (2, 14, expression, 13, 21))
         self.assertEqual(guide_rules.read_rule(bytearray(b"?" + packed), 1), (2, 14, expression, 14, 22))
         for place in (21, 22, TOO_LARGE - 1):
@@ -196,8 +202,6 @@ class Rules(unittest.TestCase):
             guide_rules.rules(packed + packed[:2] + b"\x07" + packed[3:])
         with self.assertRaises(ValueError):
             guide_rules.package([(2, "0111", parse("VA0 VA1 OR"))] * 3121)
-        with self.assertRaises(ValueError):
-            guide_rules.write_rule(6, [0] * 65, b"")
 
     def test_costs_and_cheaper(self):
         # worked by hand: an OR is discounted for its first operand alone

@@ -11,7 +11,7 @@ from layers import ROOT, listed, used
 
 # The crates that get and set coefficients, count their words and clear stray ones (packed_anf), pack and unpack them (anf_transform), list them
 # (anf_form), and look at the bits of a form's or a table's word (form, search, table). What their code calls is added.
-HOLDERS = ("packed_anf", "anf_transform", "anf_form", "table", "form", "search")
+HOLDERS = ("packed_anf", "anf_transform", "anf_form", "table", "form", "search", "rule_package")
 # Counts the words of coefficients in recorded files; the rest of its crate deals in bytes.
 FILES = ("recorded/src/sizes.rt",)
 

@@ -9,6 +9,7 @@ use lib.Dec.{T, eqb, ltb}
 use Rattle.bits.specs.Bit.{_⊕_, digit, bit, within}
 use Rattle.bits.specs.Fixed.{below, turns, fixed}
 use Rattle.bits.specs.LowFirst.{lowFirst, lowBytes}
+use Rattle.bits.specs.Part.{part}
 use Rattle.bits.specs.Range.{from, upto, keep, all, any, mem, same, After, Ascending, Below}
 use Rattle.bits.specs.Stored.{Room, Stored}
 use Rattle.bits.specs.Sum.{sum, total, parity, union}
@@ -104,6 +105,18 @@ pub byte-rows :
     )
 unfolding lowFirst lowBytes same
 byte-rows = tt
+
+-- ---- parts: the elements from a place on, or what is left of them
+
+pub part-rows :
+    T (
+    same (part (5 ∷ 6 ∷ 7 ∷ 8 ∷ []) 1 2) (6 ∷ 7 ∷ [])
+    && same (part (5 ∷ 6 ∷ 7 ∷ 8 ∷ []) 3 2) (8 ∷ [])
+    && same (part (5 ∷ 6 ∷ 7 ∷ 8 ∷ []) 4 2) []
+    && same (part (5 ∷ 6 ∷ 7 ∷ 8 ∷ []) 0 0) []
+    )
+unfolding same
+part-rows = tt
 
 -- ---- recursion: k + (k - 1) + .. + 0, by a rule that asks for its value at k - 1; and a rule that asks for its value at k itself
 

@@ -27,4 +27,5 @@ pub mod Cells
 pub mod Injective
 pub mod Stored
 pub mod Copied
+pub mod Part
 pub mod LowFirst

@@ -4,4 +4,5 @@ pub mod Sum
 pub mod Word
 pub mod Fixed
 pub mod Stored
+pub mod Part
 pub mod LowFirst

@@ -60,24 +60,24 @@ pub fn examine_table(flags: usize, table: Table, bytes: &[u8]) -> Examination
 
 // The same against the table that a word holds, bit s for setting s: for the reader of a package, and below for the writer. With one caller each,
 // both are inlined there (docs/DECISIONS.md).
-pub fn examine_read(flags: usize, word: u64, bytes: &[u8]) -> Examination
+pub fn examine_for_reader(flags: usize, word: u64, bytes: &[u8]) -> Examination
     requires { ⌜ flags ≤ ruleFlags ⌝ }
     ensures { λ r. ⌜ examinationOf r ≡ Calls.examine flags (wordTable flags word) (now (bytes .entry)) ⌝ }
 {
     let words = table::flag_words();
-    match lanes::walk_read(flags, bytes, &words) {
-        Walked::Values(seen) => judge(flags, Table { bits: word }, seen),
+    match lanes::walk_for_reader(flags, bytes, &words) {
+        Walked::Values(seen) => judge(flags, Table::of_word(word), seen),
         Walked::Refused(refusal) => Examination::Refused(refusal),
     }
 }
 
-pub fn examine_written(flags: usize, word: u64, bytes: &[u8]) -> Examination
+pub fn examine_for_writer(flags: usize, word: u64, bytes: &[u8]) -> Examination
     requires { ⌜ flags ≤ ruleFlags ⌝ }
     ensures { λ r. ⌜ examinationOf r ≡ Calls.examine flags (wordTable flags word) (now (bytes .entry)) ⌝ }
 {
     let words = table::flag_words();
-    match lanes::walk_written(flags, bytes, &words) {
-        Walked::Values(seen) => judge(flags, Table { bits: word }, seen),
+    match lanes::walk_for_writer(flags, bytes, &words) {
+        Walked::Values(seen) => judge(flags, Table::of_word(word), seen),
         Walked::Refused(refusal) => Examination::Refused(refusal),
     }
 }

@@ -66,7 +66,7 @@ pub fn walk_stars(flags: usize, bytes: &[u8], words: &[u64]) -> Walked
     }
 }
 
-pub fn walk_read(flags: usize, bytes: &[u8], words: &[u64]) -> Walked
+pub fn walk_for_reader(flags: usize, bytes: &[u8], words: &[u64]) -> Walked
     requires { ⌜ (flags ≤ ruleFlags) × (flags ≤ length (now words)) ⌝ }
     ensures { λ r. ⌜ walkedOf r ≡ seen flags (now (bytes .entry)) (now (words .entry)) ⌝ }
 {
@@ -79,7 +79,7 @@ pub fn walk_read(flags: usize, bytes: &[u8], words: &[u64]) -> Walked
     }
 }
 
-pub fn walk_written(flags: usize, bytes: &[u8], words: &[u64]) -> Walked
+pub fn walk_for_writer(flags: usize, bytes: &[u8], words: &[u64]) -> Walked
     requires { ⌜ (flags ≤ ruleFlags) × (flags ≤ length (now words)) ⌝ }
     ensures { λ r. ⌜ walkedOf r ≡ seen flags (now (bytes .entry)) (now (words .entry)) ⌝ }
 {

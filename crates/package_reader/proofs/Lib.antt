@@ -1,3 +1,2 @@
-pub mod Number
-pub mod Rows
+pub mod Checked
 pub mod Injective

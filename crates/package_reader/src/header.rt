@@ -1,13 +1,13 @@
 // The header of a rule: the rows 15, 16, 1 and 17, in this order. It rests on the numbers in a slice of bytes and on
 // `rule_package`.
-use crate::Rule;
+use crate::RuleAt;
 use crate::numbers;
 use rule_package::HEADER_LENGTH;
 use rules::BAD_RULE_MARK;
 use rules::PACKAGE_FLAGS;
 use rules::PAST_END;
 use rules::Refusal;
-use rules::STRAY_TABLE;
+use rules::STRAY_TABLE_BIT;
 use rules::TOO_MANY_FLAGS;
 ghost use mathlib.Core.Path.{_≡_};
 ghost use Prim.Native.Nat.{_+_, _≤_, _<_};
@@ -15,13 +15,14 @@ ghost use lib.ListN.{length};
 ghost use Rattle.bits.specs.Range.{same};
 ghost use Rattle.rules.specs.Ascii.{ascii};
 ghost use Rattle.rules.specs.Limits.{packageLimit};
-ghost use Rattle.rule_package.specs.Calls.{part, ruleAt, headed};
+ghost use Rattle.bits.specs.Part.{part};
+ghost use Rattle.rule_package.specs.Calls.{ruleAt, headed};
 ghost use Rattle.rule_package.specs.Rule.{headerLength};
-ghost use Rattle.package_reader.specs.Answers.{ruleOf};
-ghost use Rattle.package_reader.specs.Inner.{headerOf, known};
+ghost use Rattle.package_reader.specs.Answers.{ruleAtOf};
+ghost use Rattle.package_reader.specs.Inner.{headerOf, limited};
 
 pub enum Header {
-    Found(Rule),
+    Found(RuleAt),
     Refused(Refusal),
 }
 
@@ -57,16 +58,16 @@ pub fn read(bytes: &[u8], place: usize) -> Header
     if bytes.len() < rule.next {
         return refused(PAST_END, place);
     }
-    judged(rule, place)
+    limited(rule, place)
 }
 
-// What a header says that is whole.
-fn fields(bytes: &[u8], place: usize) -> Rule
+// What a header says that is whole: behind the mark of 2 bytes the flag count in 1, the length in 2 and the table word in 8.
+fn fields(bytes: &[u8], place: usize) -> RuleAt
     requires { ⌜ (place + headerLength ≤ length (now bytes)) × (length (now bytes) ≤ packageLimit) ⌝ }
-    ensures { λ r. ⌜ ruleOf r ≡ ruleAt (now (bytes .entry)) place ⌝ }
+    ensures { λ r. ⌜ ruleAtOf r ≡ ruleAt (now (bytes .entry)) place ⌝ }
 {
     let length = numbers::pair_at(bytes, place + 3) as usize;
-    Rule {
+    RuleAt {
         flags: numbers::wide(bytes[place + 2]) as usize,
         table: numbers::word_at(bytes, place + 5),
         start: place + HEADER_LENGTH,
@@ -76,14 +77,14 @@ fn fields(bytes: &[u8], place: usize) -> Rule
 }
 
 // The rows of the flag count and of the table.
-fn judged(rule: Rule, place: usize) -> Header
-    ensures { λ r. ⌜ headerOf r ≡ known (ruleOf rule) place ⌝ }
+fn limited(rule: RuleAt, place: usize) -> Header
+    ensures { λ r. ⌜ headerOf r ≡ limited (ruleAtOf rule) place ⌝ }
 {
     if PACKAGE_FLAGS < rule.flags {
         return refused(TOO_MANY_FLAGS, place);
     }
     if rule_package::is_stray(rule.flags, rule.table) {
-        return refused(STRAY_TABLE, place);
+        return refused(STRAY_TABLE_BIT, place);
     }
     Header::Found(rule)
 }

@@ -16,13 +16,13 @@ ghost use mathlib.Core.Path.{_≡_};
 ghost use Prim.Native.Nat.{_+_, _<_, _^_};
 ghost use Rattle.rules.specs.Limits.{differs, tooCostly};
 ghost use Rattle.rules.specs.Outcome.{gives, _then_};
-ghost use Rattle.rule_package.specs.Calls.{ruleIn, fromStart, readRule};
+ghost use Rattle.rule_package.specs.Calls.{ruleIn, inPackage, readRule};
 ghost use Rattle.rule_package.specs.Rule.{examineRule};
-ghost use Rattle.package_reader.specs.Answers.{ruleOf, ruleReadingOf};
+ghost use Rattle.package_reader.specs.Answers.{ruleAtOf, ruleReadingOf};
 ghost use Rattle.package_reader.specs.Inner.{Whole, refusalOf};
 
 // A rule in a package: its flag count, the word of its table, where its expression starts and how long it is, and the place after it.
-pub struct Rule {
+pub struct RuleAt {
     pub flags: usize,
     pub table: u64,
     pub start: usize,
@@ -31,7 +31,7 @@ pub struct Rule {
 }
 
 pub enum RuleReading {
-    Found(Rule),
+    Found(RuleAt),
     End,
     Refused(Refusal),
 }
@@ -57,24 +57,24 @@ pub fn read_rule(bytes: &[u8], place: usize) -> RuleReading
 }
 
 // A rule whose bytes are whole, once the examiner accepts it.
-fn examined(bytes: &[u8], rule: Rule) -> RuleReading
-    requires { ⌜ Whole (now bytes) (ruleOf rule) ⌝ }
+fn examined(bytes: &[u8], rule: RuleAt) -> RuleReading
+    requires { ⌜ Whole (now bytes) (ruleAtOf rule) ⌝ }
     ensures { λ r. ⌜ ruleReadingOf r
-        ≡ (fromStart (rule .start) (examineRule (ruleIn (now (bytes .entry)) (ruleOf rule))) then (λ c. gives (some (ruleOf rule)))) ⌝ }
+        ≡ (inPackage (rule .start) (examineRule (ruleIn (now (bytes .entry)) (ruleAtOf rule))) then (λ c. gives (some (ruleAtOf rule)))) ⌝ }
 {
     let start = rule.start;
     let next = rule.next;
-    let examination = examiner::examine_read(rule.flags, rule.table, &bytes[start..next]);
+    let examination = examiner::examine_for_reader(rule.flags, rule.table, &bytes[start..next]);
     match examination {
         Examination::Accepted(_) => RuleReading::Found(rule),
-        Examination::Refused(refusal) => RuleReading::Refused(from_start(start, refusal)),
+        Examination::Refused(refusal) => RuleReading::Refused(in_package(start, refusal)),
     }
 }
 
-// A refusal of bytes that start at `start` of the package: a place that counts bytes is counted from the package's start.
-fn from_start(start: usize, refusal: Refusal) -> Refusal
-    requires { ⌜ (refusal .number ≢ differs → refusal .number ≢ tooCostly → start + refusal .place < 2 ^ 64) ⌝ }
-    ensures { λ r. ⌜ refusalOf r ≡ fromStart start (refusalOf refusal) ⌝ }
+// A refusal of the bytes from `at` on, in the package: a place that counts bytes is counted from the package's first byte.
+fn in_package(at: usize, refusal: Refusal) -> Refusal
+    requires { ⌜ (refusal .number ≢ differs → refusal .number ≢ tooCostly → at + refusal .place < 2 ^ 64) ⌝ }
+    ensures { λ r. ⌜ refusalOf r ≡ inPackage at (refusalOf refusal) ⌝ }
 {
     if refusal.number == DIFFERS {
         return refusal;
@@ -84,6 +84,6 @@ fn from_start(start: usize, refusal: Refusal) -> Refusal
     }
     Refusal {
         number: refusal.number,
-        place: start + refusal.place,
+        place: at + refusal.place,
     }
 }

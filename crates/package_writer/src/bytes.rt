@@ -1,4 +1,5 @@
-// Bytes stored in a lent buffer at a place: a number low byte first, a slice, and the header of a rule.
+// Bytes stored in a lent buffer at a place: a number low byte first, a slice, and the header of a rule. It rests on the definitions of `bits` and
+// `rule_package`.
 ghost use mathlib.Core.Path.{_≡_};
 ghost use Prim.Native.Nat.{_+_, _≤_};
 ghost use lib.ListN.{length};
@@ -29,14 +30,14 @@ pub fn put_all(bytes: &[u8], out: &mut [u8], at: usize)
     }
 }
 
-// The mark, the flag count, the size of the expression and the table.
-pub fn put_header(flags: u8, size: u64, table: u64, out: &mut [u8])
+// The mark, the flag count, the count of the expression's bytes and the table word: 2 + 1 + 2 + 8 bytes.
+pub fn put_header(flags: u8, count: u64, table: u64, out: &mut [u8])
     requires { ⌜ headerLength ≤ length (now out) ⌝ }
-    ensures { λ _. ⌜ now (out .exit) ≡ sets (now (out .entry)) 0 (header flags size table) ⌝ }
+    ensures { λ _. ⌜ now (out .exit) ≡ sets (now (out .entry)) 0 (header flags count table) ⌝ }
 {
     out[0] = b'R';
     out[1] = b'U';
     out[2] = flags;
-    put_low(size, 2, out, 3);
+    put_low(count, 2, out, 3);
     put_low(table, 8, out, 5);
 }

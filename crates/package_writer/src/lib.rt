@@ -7,7 +7,7 @@ use rule_package::HEADER_LENGTH;
 use rules::PACKAGE_FLAGS;
 use rules::Refusal;
 use rules::SHORT_OUTPUT;
-use rules::STRAY_TABLE;
+use rules::STRAY_TABLE_BIT;
 use rules::TOO_MANY_FLAGS;
 ghost use mathlib.Core.Path.{_≡_};
 ghost use Prim.Native.Nat.{_≤_};
@@ -42,9 +42,9 @@ pub fn write_rule(flags: usize, table: u64, expression: &[u8], out: &mut [u8]) -
         return refused(TOO_MANY_FLAGS, 0);
     }
     if rule_package::is_stray(flags, table) {
-        return refused(STRAY_TABLE, 0);
+        return refused(STRAY_TABLE_BIT, 0);
     }
-    let examination = examiner::examine_written(flags, table, expression);
+    let examination = examiner::examine_for_writer(flags, table, expression);
     match examination {
         Examination::Accepted(_) => put(flags, table, expression, out),
         Examination::Refused(refusal) => Writing::Refused(refusal),

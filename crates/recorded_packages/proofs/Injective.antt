@@ -1,7 +1,7 @@
 -- Equal numbers have equal answers, so what the replay compares tells a rule from the end and from a refusal. It rests on the definitions of
 -- specs/Readings and specs/Writings, and for the reader's answers on their meaning (package_reader, Injective).
 --   numbersOf-injective   == the outcomes of the reader
---   readBy-injective      == the answers of the reader
+--   reading-injective     == the answers of the reader
 --   writtenBy-injective   == the answers of the writer
 use mathlib.Core.Bool.{Bool, true, false}
 use mathlib.Core.List.{List}
@@ -44,8 +44,8 @@ reading-of (refuses k p) = refl
 pub numbersOf-injective : (o q : result.Outcome (Option RuleAt)) → numbersOf o ≡ numbersOf q → o ≡ q
 numbersOf-injective = told-apart numbersOf reading reading-of
 
-pub readBy-injective : (a b : RuleReading) → numbersOf (ruleReadingOf a) ≡ numbersOf (ruleReadingOf b) → a ≡ b
-readBy-injective a b e = ruleReadingOf-injective a b (numbersOf-injective (ruleReadingOf a) (ruleReadingOf b) e)
+pub reading-injective : (a b : RuleReading) → numbersOf (ruleReadingOf a) ≡ numbersOf (ruleReadingOf b) → a ≡ b
+reading-injective a b e = ruleReadingOf-injective a b (numbersOf-injective (ruleReadingOf a) (ruleReadingOf b) e)
 
 abbrev answer : Bool → Outcome → Writing
 answer true o = writing.Refused record { number = o .number; place = o .first }

@@ -3,7 +3,7 @@
 --   packaging                == opens the definitions of this crate, as `computing` does those of `rules`
 --   rule n w "VA0"           == the rule of n flags, the table word w and these records
 --   bytes n k t "VA0"        == bytes by hand: the mark, n flags, a length of k, the table byte t and seven of 0, these records
---   isRule, isRuleAt         == a rule, or a rule in a package, is the expected one
+--   isRule, isRuleAt, isPlaced  == a rule, or a rule in a package, or a list of these, is the expected one
 --   isHeaded, isRead, isEnd  == an answer is that rule, or the end
 --   two, first, second       == the bytes of a package, and the two rules that are read in it
 --   long                     == a rule whose length takes two bytes
@@ -19,11 +19,11 @@ use Rattle.rules.specs.Outcome.{Outcome, gives, refuses}
 use Rattle.rules.proofs.Answers.{bytesOf}
 use Rattle.rules.proofs.Computing.{computing}
 use Rattle.laws.proofs.reading.LongRows.{negations}
-use Rattle.rule_package.specs.Calls.{writeRule, RuleAt, ruleAt, ruleIn, headed, fromStart, readRule}
+use Rattle.rule_package.specs.Calls.{writeRule, RuleAt, ruleAt, ruleIn, ruleFrom, placed, headed, inPackage, readRule}
 use Rattle.rule_package.specs.Rule.{Rule, ruleBytes, packageBytes, strayBit, examineRule}
 
 unfoldable pub packaging : Unit {0}
-unfolding computing lowFirst lowBytes ruleBytes packageBytes strayBit examineRule writeRule ruleAt ruleIn headed fromStart readRule
+unfolding computing lowFirst lowBytes ruleBytes packageBytes strayBit examineRule writeRule ruleAt ruleIn ruleFrom placed headed inPackage readRule
 packaging = tt
 
 unfoldable pub rule : ℕ → ℕ → String → Rule
@@ -42,6 +42,13 @@ isRule a r = eqb (a .flags) (r .flags) && eqb (a .table) (r .table) && same (a .
 unfoldable pub isRuleAt : RuleAt → RuleAt → Bool
 isRuleAt a r =
     eqb (a .flags) (r .flags) && eqb (a .table) (r .table) && eqb (a .start) (r .start) && eqb (a .length) (r .length) && eqb (a .next) (r .next)
+
+unfoldable pub isPlaced : List RuleAt → List RuleAt → Bool
+unfolding isRuleAt
+isPlaced [] [] = true
+isPlaced [] (r ∷ rs) = false
+isPlaced (a ∷ l) [] = false
+isPlaced (a ∷ l) (r ∷ rs) = isRuleAt a r && isPlaced l rs
 
 unfoldable pub isHeaded : RuleAt → Outcome RuleAt → Bool
 unfolding isRuleAt

@@ -1,33 +1,23 @@
 -- Request 4 of document 02, computed with the definitions: a rule in a package, and the reader with its refusals in their order. The values are
 -- worked by hand from the request's sentences, which the comments quote, and from how its open points are read; nothing here came from a program.
---   refusedIn, refusedFor    == the reader refuses a rule so, at its first byte and behind another rule
+--   refusedIn, refusedFor    == the reader refuses a rule so, alone and behind another rule; for is for a place that is no byte
+--   isOverlong, isAllowed    == a package of 65,537 bytes is refused at each of some places, and one of 65,536 is not
 use mathlib.Core.Bool.{Bool, false, _&&_, false≢true}
 use mathlib.Core.List.{List, [], _∷_, _++_}
 use mathlib.Core.Path.{_≡_, refl, sym, ap}
 use Prim.Native.Nat.{ℕ, _+_, _-_, _^_, _≤_}
-use native.Mathlib.Nat.{sub-eq-zero-of-le}
+use native.Mathlib.Omega.{arith}
 use lib.Dec.{T}
-use lib.ListN.{take, drop, replicate}
-use lib.Pow.{pow-mono}
+use lib.ListN.{length, take, drop, replicate}
 use Rattle.bits.specs.Range.{same}
 use Rattle.rules.specs.Outcome.{gives, refuses}
 use Rattle.rules.proofs.Answers.{isRefusal, isNumber}
-use Rattle.rule_package.specs.Calls.{part, ruleAt, ruleIn, headed, fromStart, readRule, Reads}
+use Rattle.bits.specs.Part.{part}
+use Rattle.rule_package.specs.Calls.{Writes, ruleAt, ruleIn, ruleFrom, placed, headed, inPackage, readRule, Reads}
 use Rattle.rule_package.specs.Rule.{ruleBytes, strayBit}
-use Rattle.rule_package.proofs.Answers.{packaging, rule, bytes, isRule, isRuleAt, isHeaded, isRead, isEnd, two, first, second, long}
+use Rattle.rule_package.proofs.Answers.{packaging, rule, bytes, isRule, isRuleAt, isPlaced, isHeaded, isRead, isEnd, two, first, second, long}
 
 -- ---- a rule in a package
-
--- k bytes from place p on, or what is left of them
-pub part-rows :
-    T (
-    same (part (5 ∷ 6 ∷ 7 ∷ 8 ∷ []) 1 2) (6 ∷ 7 ∷ [])
-    && same (part (5 ∷ 6 ∷ 7 ∷ 8 ∷ []) 3 2) (8 ∷ [])
-    && same (part (5 ∷ 6 ∷ 7 ∷ 8 ∷ []) 4 2) []
-    && same (part (5 ∷ 6 ∷ 7 ∷ 8 ∷ []) 0 0) []
-    )
-unfolding packaging
-part-rows = tt
 
 -- the sentence of a rule's bytes, read back: a package of two rules, and a rule with any bytes before it, a length of 8 + 256 and a table whose bytes
 -- are 1 to 8
@@ -43,6 +33,18 @@ pub rule-at-rows :
     )
 unfolding packaging rule long isRule isRuleAt
 rule-at-rows = tt
+
+-- a rule as it stands at a place, and rules end to end: `0111` and behind it `10`
+pub placed-rows :
+    T (
+    isRuleAt first (ruleFrom 0 (rule 2 14 "VA0 VA1 OR"))
+    && isRuleAt second (ruleFrom 21 (rule 1 1 "VA0 NO"))
+    && isPlaced (first ∷ second ∷ []) (placed 0 (rule 2 14 "VA0 VA1 OR" ∷ rule 1 1 "VA0 NO" ∷ []))
+    && isPlaced (second ∷ []) (placed 21 (rule 1 1 "VA0 NO" ∷ []))
+    && isPlaced [] (placed 5 [])
+    )
+unfolding packaging rule isRuleAt isPlaced
+placed-rows = tt
 
 -- ---- the reader
 
@@ -165,24 +167,17 @@ pub table-refusals :
 unfolding packaging bytes refusedIn refusedFor isRefusal
 table-refusals = tt
 
--- of six flags every bit of a word stands below 2^n, and of more flags too: 17 cannot occur there, so that 1 and 17 never meet
-pub never-stray : (n w : ℕ) → 6 ≤ n → strayBit n w ≡ false
-unfolding packaging
-never-stray n w h =
-    let none-left : 64 - 2 ^ n ≡ 0 = sub-eq-zero-of-le (pow-mono h) in
-    rw none-left
-
 -- "byte places counted from the package start and those of 12 and 13 as before"
 pub place-rows :
     T (
-    isRefusal {A = ℕ} 6 16 (fromStart 13 (refuses 6 3))
-    && isRefusal {A = ℕ} 7 34 (fromStart 34 (refuses 7 0))
-    && isRefusal {A = ℕ} 8 37 (fromStart 34 (refuses 8 3))
-    && isRefusal {A = ℕ} 9 784 (fromStart 13 (refuses 9 771))
-    && isRefusal {A = ℕ} 10 19 (fromStart 13 (refuses 10 6))
-    && isRefusal {A = ℕ} 12 3 (fromStart 13 (refuses 12 3))
-    && isRefusal {A = ℕ} 13 385 (fromStart 34 (refuses 13 385))
-    && isNumber 3 (fromStart 13 (gives 3))
+    isRefusal {A = ℕ} 6 16 (inPackage 13 (refuses 6 3))
+    && isRefusal {A = ℕ} 7 34 (inPackage 34 (refuses 7 0))
+    && isRefusal {A = ℕ} 8 37 (inPackage 34 (refuses 8 3))
+    && isRefusal {A = ℕ} 9 784 (inPackage 13 (refuses 9 771))
+    && isRefusal {A = ℕ} 10 19 (inPackage 13 (refuses 10 6))
+    && isRefusal {A = ℕ} 12 3 (inPackage 13 (refuses 12 3))
+    && isRefusal {A = ℕ} 13 385 (inPackage 34 (refuses 13 385))
+    && isNumber 3 (inPackage 13 (gives 3))
     )
 unfolding packaging isRefusal isNumber
 place-rows = tt
@@ -244,3 +239,14 @@ reads-to-the-end h = false≢true (ap isEnd (h .1))
 pub reads-no-refusal : ¬ Reads (two ++ 82 ∷ []) 39 []
 unfolding packaging isEnd
 reads-no-refusal h = false≢true (ap isEnd h)
+
+-- ---- "written rules, end to end"
+
+-- what the writer gives for the two rules, each in the room that it needs, and for none
+pub writes-rows : Writes (rule 2 14 "VA0 VA1 OR" ∷ rule 1 1 "VA0 NO" ∷ []) two × Writes [] []
+unfolding packaging rule
+writes-rows = ((21, take 21 two, drop 21 two, refl, refl, (18, drop 21 two, [], refl, refl, refl)), refl)
+
+-- nothing stands behind the last rule
+pub writes-no-more : ¬ Writes [] (82 ∷ [])
+writes-no-more e = let z : _≡_ {A = ℕ} 1 0 = ap length e in omega arith

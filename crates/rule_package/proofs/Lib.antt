@@ -2,7 +2,7 @@ pub mod Answers
 pub mod BytesRows
 pub mod CallRows
 pub mod Stray
-pub mod Header
+pub mod RuleBytes
 pub mod Stands
 pub mod Sound
 pub mod Reading

@@ -16,7 +16,8 @@ use Rattle.rules.specs.Outcome.{Outcome, gives, refuses}
 use Rattle.rules.specs.Table.{wordTable}
 use Rattle.laws.proofs.calls.Numbered.{Positive, Numbered, numbered-examine}
 use Rattle.laws.proofs.calls.Refused.{by-row, by-step, by-choice}
-use Rattle.rule_package.specs.Calls.{part, ruleAt, ruleIn, headed, fromStart, writeRule, readRule}
+use Rattle.bits.specs.Part.{part}
+use Rattle.rule_package.specs.Calls.{ruleAt, ruleIn, headed, inPackage, writeRule, readRule}
 use Rattle.rule_package.specs.Rule.{Rule, headerLength, ruleBytes, strayBit, examineRule}
 
 numbered-examineRule : (r : Rule) → Numbered (examineRule r)
@@ -39,10 +40,10 @@ numbered-headed s p =
     (by-row Positive (ltb packageFlags (ruleAt s p .flags)) _ _ _ (omega arith)
     (by-row Positive (strayBit (ruleAt s p .flags) (ruleAt s p .table)) _ _ _ (omega arith) tt)))
 
-numbered-fromStart : {A : Type 0} (at : ℕ) (o : Outcome A) → Numbered o → Numbered (fromStart at o)
-unfolding fromStart
-numbered-fromStart at (gives a) h = tt
-numbered-fromStart at (refuses k p) h = h
+numbered-inPackage : {A : Type 0} (at : ℕ) (o : Outcome A) → Numbered o → Numbered (inPackage at o)
+unfolding inPackage
+numbered-inPackage at (gives a) h = tt
+numbered-inPackage at (refuses k p) h = h
 
 pub numbered-readRule : (s : List ℕ) (p : ℕ) → Numbered (readRule s p)
 unfolding readRule
@@ -50,6 +51,6 @@ numbered-readRule s p =
     by-row Positive (ltb packageLimit (length s)) _ _ _ (omega arith)
     (by-choice Positive (ltb p (length s)) _ _
     (by-step Positive (headed s p) _ (numbered-headed s p)
-    (λ r. by-step Positive (fromStart (r .start) (examineRule (ruleIn s r))) _
-    (numbered-fromStart (r .start) (examineRule (ruleIn s r)) (numbered-examineRule (ruleIn s r))) (λ c. tt)))
+    (λ r. by-step Positive (inPackage (r .start) (examineRule (ruleIn s r))) _
+    (numbered-inPackage (r .start) (examineRule (ruleIn s r)) (numbered-examineRule (ruleIn s r))) (λ c. tt)))
     tt)

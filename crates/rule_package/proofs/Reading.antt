@@ -1,8 +1,7 @@
 -- Rules end to end: the bytes of sound rules are read as these rules and then the end, and what is read has the bytes that were read. It rests on the
--- bytes of one rule (Header), on what the reader gives (Stands) and on what the writer asks (Sound).
+-- bytes of one rule (RuleBytes), on what the reader gives (Stands) and on what the writer asks (Sound).
 --   sound-stands, sound-read       == a sound rule stands where its bytes do, and is read there
 --   stands-ruleBytes               == a rule that stands in a package has the bytes from there to its next place
---   placed p rs                    == where the parts of the rules rs are whose bytes start at p
 --   reads-placed, rules-placed     == the bytes of sound rules are read as these, and these are the rules
 --   reads-sound, packageBytes-reads == what is read from a place on is sound, and has the bytes from there on
 --   reads-unique, packageBytes-injective == bytes have one reading, so that sound rules with the same bytes are the same
@@ -13,13 +12,15 @@ use Prim.Native.Nat.{ℕ, _+_, _-_, _≤_}
 use native.Mathlib.Omega.{arith}
 use lib.ListN.{length, drop, length-append, take-append-drop, drop-of-length-le}
 use lib.Seq.{drop-drop}
+use Rattle.bits.specs.Part.{part}
 use Rattle.bits.specs.Range.{Below}
 use Rattle.bits.proofs.Every.{Every}
 use Rattle.rules.specs.Limits.{packageLimit}
 use Rattle.rules.specs.Outcome.{gives}
-use Rattle.rule_package.specs.Calls.{part, RuleAt, ruleIn, readRule, Reads}
+use Rattle.laws.proofs.calls.Outcome.{none-some}
+use Rattle.rule_package.specs.Calls.{RuleAt, ruleFrom, placed, ruleIn, readRule, Reads}
 use Rattle.rule_package.specs.Rule.{Rule, headerLength, ruleBytes, packageBytes, examineRule}
-use Rattle.rule_package.proofs.Header.{length-ruleBytes, ruleFrom, mark-ruleBytes, ruleAt-ruleBytes, ruleIn-ruleBytes, ruleBytes-ruleIn}
+use Rattle.rule_package.proofs.RuleBytes.{length-ruleBytes, mark-ruleBytes, ruleAt-ruleBytes, ruleIn-ruleBytes, ruleBytes-ruleIn}
 use Rattle.rule_package.proofs.Sound.{Sound, sound-limit, stands-sound}
 use Rattle.rule_package.proofs.Stands.{Headed, Stands, read-stands, stands-read, read-ends, ends-read}
 
@@ -59,10 +60,6 @@ stands-ruleBytes s p r small st =
 
 -- ---- rules end to end
 
-unfoldable pub placed : ℕ → List Rule → List RuleAt
-placed p [] = []
-placed p (r ∷ rs) = ruleFrom p r ∷ placed (ruleFrom p r .next) rs
-
 next-ruleFrom : (a : List ℕ) (r : Rule) → length (a ++ ruleBytes r) ≡ ruleFrom (length a) r .next
 unfolding ruleFrom
 next-ruleFrom a r = length-append a (ruleBytes r)
@@ -99,8 +96,8 @@ reads-sound s small p (r ∷ rs) e = (stands-sound s small p r (read-stands s p 
 
 pub reads-unique : (s : List ℕ) (p : ℕ) (a b : List RuleAt) → Reads s p a → Reads s p b → a ≡ b
 reads-unique s p [] [] e f = refl
-reads-unique s p [] (y ∷ b) e f = let g = f .0 in let z : _≡_ {A = ℕ} 0 1 = cc in absurd (omega arith)
-reads-unique s p (x ∷ a) [] e f = let g = e .0 in let z : _≡_ {A = ℕ} 0 1 = cc in absurd (omega arith)
+reads-unique s p [] (y ∷ b) e f = absurd (none-some (sym e ∙ f .0))
+reads-unique s p (x ∷ a) [] e f = absurd (none-some (sym f ∙ e .0))
 reads-unique s p (x ∷ a) (y ∷ b) e f =
     let same : x ≡ y = cc (e .0, f .0) in
     ap₂ {C = List RuleAt} _∷_ same (reads-unique s (x .next) a b (e .1) (rw same (f .1)))

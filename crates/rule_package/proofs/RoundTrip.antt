@@ -2,7 +2,7 @@
 -- examiner accepts. They rest on what the reader gives (Stands), on what the writer asks (Sound) and on rules end to end (Reading).
 --   read-accepted            == a rule read is one that the examiner accepts against its own table
 --   read-next, read-end      == its next place is behind its bytes; the end is given at or past the package's length
---   write-length             == what the writer gives for a rule has the rule's length
+--   write-length, write-room == what the writer gives for a rule has the rule's length, and 976 bytes are room for it
 --   read-written             == a written rule is read with its next place, and is the rule, wherever in a package it stands
 --   reads-package            == the bytes of sound rules end to end are read as these rules, and then the end
 --   reads-written            == so are the bytes that the writer gives for rules, one behind the other
@@ -16,18 +16,20 @@ use mathlib.Core.Path.{_≡_, sym, ap, _∙_}
 use Prim.Native.Nat.{ℕ, _+_, _-_, _≤_}
 use native.Mathlib.Omega.{arith}
 use lib.ListN.{length}
+use Rattle.bits.specs.Part.{part}
 use Rattle.bits.specs.Range.{Below}
 use Rattle.bits.proofs.Every.{Every}
-use Rattle.rules.specs.Limits.{packageLimit}
+use Rattle.bits.proofs.Part.{length-part}
+use Rattle.rules.specs.Limits.{byteLimit, packageLimit}
 use Rattle.rules.specs.Outcome.{gives}
-use Rattle.rule_package.specs.Calls.{part, RuleAt, ruleIn, writeRule, readRule, Reads}
-use Rattle.rule_package.specs.Rule.{Rule, headerLength, ruleBytes, packageBytes, examineRule}
-use Rattle.rule_package.proofs.Header.{length-ruleBytes, length-part, ruleFrom, ruleIn-ruleBytes}
-use Rattle.rule_package.proofs.Reading.{sound-read, stands-ruleBytes, placed, reads-placed, rules-placed}
+use Rattle.rule_package.specs.Calls.{RuleAt, ruleFrom, placed, ruleIn, writeRule, Writes, readRule, Reads}
+use Rattle.rule_package.specs.Rule.{Rule, Held, headerLength, ruleBytes, packageBytes, examineRule}
+use Rattle.rule_package.proofs.RuleBytes.{length-ruleBytes, ruleIn-ruleBytes}
+use Rattle.rule_package.proofs.Reading.{sound-read, stands-ruleBytes, reads-placed, rules-placed}
 use Rattle.rule_package.proofs.Reading.{packageBytes-reads, reads-sound, reads-unique, packageBytes-injective}
-use Rattle.rule_package.proofs.Sound.{Held, Sound, sound-write, write-sound, stands-sound}
+use Rattle.rule_package.proofs.Sound.{Sound, sound-limit, sound-write, write-sound, stands-sound}
 use Rattle.rule_package.proofs.Stands.{read-stands, read-ends, ends-read}
-use Rattle.rule_package.proofs.Writing.{Writes, writes-sound, sound-writes}
+use Rattle.rule_package.proofs.Writing.{writes-sound, sound-writes}
 
 -- ---- what is read
 
@@ -52,6 +54,10 @@ module _ (s : List ℕ) (p : ℕ) where
 -- "The writer answers the rule's length"
 pub write-length : (r : Rule) (room : ℕ) (l : List ℕ) → Held r → writeRule r room ≡ gives l → length l ≡ headerLength + length (r .expression)
 write-length r room l h e = rw (write-sound r room l h e .1) (length-ruleBytes r)
+
+-- 13 and 963 bytes suffice for every rule that the writer writes
+pub write-room : (r : Rule) (room : ℕ) → Sound r → headerLength + byteLimit ≤ room → writeRule r room ≡ gives (ruleBytes r)
+write-room r room h enough = sound-write r room h (omega (arith, sound-limit r h, length-ruleBytes r))
 
 -- what was written is read at its place, whatever stands before and behind it
 pub read-written : (r : Rule) (room : ℕ) (l a b : List ℕ) → Held r → writeRule r room ≡ gives l → length (a ++ (l ++ b)) ≤ packageLimit

@@ -1,6 +1,6 @@
 -- What the writer asks of a rule, that it gives exactly such a rule's bytes, and that each rule read is such a rule. It rests on the rows of the
 -- writer, on the three conditions of the mission (laws, Accepts) and on what the reader gives (Stands).
---   Held r, Sound r            == a table word and bytes are what r has; and it is a rule that the writer accepts
+--   Sound r                    == r is a rule that the writer writes, where there is room
 --   accepted-limit             == an expression that the examiner accepts has at most 963 bytes, so that two bytes hold its length
 --   sound-limit                == so has a sound rule's
 --   sound-write, write-sound   == the writer gives a rule's bytes exactly where the rule is sound and there is room for them
@@ -11,28 +11,23 @@ use mathlib.Core.Path.{_≡_, sym}
 use Prim.Native.Nat.{ℕ, _+_, _^_, _≤_, _<_}
 use native.Mathlib.Omega.{arith}
 use lib.Dec.{ltb}
-use lib.ListN.{length, drop}
+use lib.ListN.{length}
 use borrow.Author.Tests.{ltb-false, le-ltb}
 use Rattle.bits.specs.LowFirst.{lowFirst}
+use Rattle.bits.specs.Part.{part}
 use Rattle.bits.specs.Range.{Below}
-use Rattle.bits.proofs.Below.{below-take, below-drop}
 use Rattle.bits.proofs.LowFirst.{lowFirst-limit}
+use Rattle.bits.proofs.Part.{length-part, below-part}
 use Rattle.rules.specs.Calls.{withRoom, fill}
-use Rattle.rules.specs.Limits.{byteLimit, packageFlags, wordBits, tooManyFlags, shortOutput, strayTable}
+use Rattle.rules.specs.Limits.{byteLimit, packageFlags, wordBits, tooManyFlags, shortOutput, strayTableBit}
 use Rattle.rules.specs.Outcome.{gives}
 use Rattle.rules.specs.Table.{wordTable}
 use Rattle.laws.proofs.acceptance.Accepts.{examine-meets}
 use Rattle.laws.proofs.calls.Outcome.{gives-same, refuse-gives, then-gives}
 use Rattle.laws.proofs.cost.Bytes.{byte-limit}
-use Rattle.rule_package.specs.Calls.{part, RuleAt, ruleAt, ruleIn, writeRule}
-use Rattle.rule_package.specs.Rule.{Rule, ruleBytes, strayBit, examineRule}
-use Rattle.rule_package.proofs.Header.{length-part}
+use Rattle.rule_package.specs.Calls.{RuleAt, ruleAt, ruleIn, writeRule}
+use Rattle.rule_package.specs.Rule.{Rule, Held, ruleBytes, strayBit, examineRule}
 use Rattle.rule_package.proofs.Stands.{Stands}
-
--- a word has 64 bits and a byte eight, as the types of the code have it
-pub record Held (r : Rule) : Type 0 where
-  pub word : r .table < 2 ^ wordBits
-  pub bytes : Below 256 (r .expression)
 
 pub record Sound (r : Rule) : Type 0 where
   pub held : Held r
@@ -59,7 +54,7 @@ module _ (r : Rule) where
     unfolding writeRule fill withRoom
     write-sound l held e =
         let x = refuse-gives (ltb packageFlags (r .flags)) tooManyFlags 0 _ l e in
-        let y = refuse-gives (strayBit (r .flags) (r .table)) strayTable 0 _ l (x .1) in
+        let y = refuse-gives (strayBit (r .flags) (r .table)) strayTableBit 0 _ l (x .1) in
         let z = then-gives (examineRule r) _ l (y .1) in
         let w = refuse-gives (ltb room (length (ruleBytes r))) shortOutput (length (ruleBytes r)) _ l (z .2) in
         let same : l ≡ ruleBytes r = sym (gives-same (w .1)) in (
@@ -70,14 +65,14 @@ module _ (r : Rule) where
 
 module _ (s : List ℕ) (small : Below 256 s) where
   word-part : (p : ℕ) → p + 8 ≤ length s → lowFirst (part s p 8) < 2 ^ wordBits
-  word-part p h = rw (length-part s p 8 h) at (lowFirst-limit (part s p 8) (below-take 256 8 (drop p s) (below-drop 256 p s small)))
+  word-part p h = rw (length-part s p 8 h) at (lowFirst-limit (part s p 8) (below-part s p 256 8 small))
 
   pub stands-sound : (p : ℕ) (r : RuleAt) → Stands s p r → Sound (ruleIn s r)
   unfolding ruleIn ruleAt
   stands-sound p r st = record {
     held = record {
       word = rw (st .header .at) (word-part (p + 5) (omega arith));
-      bytes = below-take 256 (r .length) (drop (r .start) s) (below-drop 256 (r .start) s small);
+      bytes = below-part s (r .start) 256 (r .length) small;
     };
     flags = st .header .flags;
     clean = st .header .clean;

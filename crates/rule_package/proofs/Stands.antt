@@ -8,7 +8,7 @@
 use mathlib.Core.Bool.{false, not, _||_}
 use mathlib.Core.List.{List}
 use mathlib.Core.Option.{Option, none, some}
-use mathlib.Core.Path.{_≡_, refl, sym, subst}
+use mathlib.Core.Path.{_≡_, refl, sym, subst, ap}
 use Prim.Native.Nat.{ℕ, _+_, _≤_}
 use native.Mathlib.Omega.{arith}
 use lib.Dec.{ltb}
@@ -18,10 +18,11 @@ use Rattle.bits.specs.Range.{same}
 use Rattle.bits.proofs.Range.{same-true, same-refl}
 use Rattle.bits.proofs.Truth.{or-false-l, or-false-r}
 use Rattle.rules.specs.Ascii.{ascii}
-use Rattle.rules.specs.Limits.{packageFlags, packageLimit, tooManyFlags, badRuleMark, pastEnd, strayTable}
+use Rattle.rules.specs.Limits.{packageFlags, packageLimit, tooManyFlags, badRuleMark, pastEnd, strayTableBit}
 use Rattle.rules.specs.Outcome.{Outcome, gives, refuses, _then_}
-use Rattle.laws.proofs.calls.Outcome.{gives-same, not-both, refuse-gives, then-gives, pick-gives}
-use Rattle.rule_package.specs.Calls.{part, RuleAt, ruleAt, ruleIn, headed, fromStart, readRule}
+use Rattle.laws.proofs.calls.Outcome.{gives-same, not-both, none-some, refuse-gives, then-gives, pick-gives}
+use Rattle.bits.specs.Part.{part}
+use Rattle.rule_package.specs.Calls.{RuleAt, ruleAt, ruleIn, headed, inPackage, readRule}
 use Rattle.rule_package.specs.Rule.{headerLength, strayBit, examineRule}
 
 pub record Headed (s : List ℕ) (p : ℕ) (r : RuleAt) : Type 0 where
@@ -43,10 +44,10 @@ pub record Ends (s : List ℕ) (p : ℕ) : Type 0 where
   pub limit : length s ≤ packageLimit
   pub past : length s ≤ p
 
-fromStart-gives : {A : Type 0} (at : ℕ) (o : Outcome A) (a : A) → fromStart at o ≡ gives a → o ≡ gives a
-unfolding fromStart
-fromStart-gives at (gives b) a e = e
-fromStart-gives at (refuses k p) a e = absurd (not-both (sym e))
+inPackage-gives : {A : Type 0} (at : ℕ) (o : Outcome A) (a : A) → inPackage at o ≡ gives a → o ≡ gives a
+unfolding inPackage
+inPackage-gives at (gives b) a e = e
+inPackage-gives at (refuses k p) a e = absurd (not-both (sym e))
 
 module _ (s : List ℕ) (p : ℕ) where
   pub headed-gives : (r : RuleAt) → headed s p ≡ gives r → Headed s p r
@@ -57,7 +58,7 @@ module _ (s : List ℕ) (p : ℕ) where
       let x = refuse-gives (not (same (part s p 2) (ascii "RU"))) badRuleMark p _ r e in
       let y = refuse-gives (cut || long) pastEnd p _ r (x .1) in
       let z = refuse-gives (ltb packageFlags (ruleAt s p .flags)) tooManyFlags p _ r (y .1) in
-      let w = refuse-gives (strayBit (ruleAt s p .flags) (ruleAt s p .table)) strayTable p _ r (z .1) in
+      let w = refuse-gives (strayBit (ruleAt s p .flags) (ruleAt s p .table)) strayTableBit p _ r (z .1) in
       subst (Headed s p) (gives-same (w .1)) record {
         mark = same-true (part s p 2) (ascii "RU") (not-false (same (part s p 2) (ascii "RU")) (x .0));
         whole = ltb-false (length s) (p + headerLength) (or-false-l cut long (y .0));
@@ -78,15 +79,15 @@ module _ (s : List ℕ) (p : ℕ) where
 
   -- past the first two rows, a result is the rule of the header
   examined : Outcome (Option RuleAt)
-  examined = headed s p then (λ r. fromStart (r .start) (examineRule (ruleIn s r)) then (λ c. gives (some r)))
+  examined = headed s p then (λ r. inPackage (r .start) (examineRule (ruleIn s r)) then (λ c. gives (some r)))
 
   examined-gives : (o : Option RuleAt) → length s ≤ packageLimit → examined ≡ gives o → (r : RuleAt) × (o ≡ some r) × Stands s p r
   unfolding examined
   examined-gives o limit e =
       let q = then-gives (headed s p) _ o e in
       let r = q .0 in
-      let v = then-gives (fromStart (r .start) (examineRule (ruleIn s r))) _ o (q .2) in
-      let accepted : examineRule (ruleIn s r) ≡ gives (v .0) = fromStart-gives (r .start) _ (v .0) (v .1) in
+      let v = then-gives (inPackage (r .start) (examineRule (ruleIn s r))) _ o (q .2) in
+      let accepted : examineRule (ruleIn s r) ≡ gives (v .0) = inPackage-gives (r .start) _ (v .0) (v .1) in
       (r, sym (gives-same (v .2)), record { limit = limit; header = headed-gives r (q .1); accepted = (v .0, accepted) })
 
   pub read-stands : (r : RuleAt) → readRule s p ≡ gives (some r) → Stands s p r
@@ -95,10 +96,10 @@ module _ (s : List ℕ) (p : ℕ) where
       let l = refuse-gives (ltb packageLimit (length s)) pastEnd 0 _ (some r) e in
       pick-gives (ltb p (length s)) examined (gives none) (some r)
       (λ i h. let q = examined-gives (some r) (ltb-false packageLimit (length s) (l .0)) h in subst (Stands s p) (cc (q .1)) (q .2))
-      (λ i h. let z : _≡_ {A = ℕ} 0 1 = cc in absurd (omega arith)) (l .1)
+      (λ i h. absurd (none-some h)) (l .1)
 
   pub stands-read : (r : RuleAt) → Stands s p r → readRule s p ≡ gives (some r)
-  unfolding readRule fromStart
+  unfolding readRule inPackage
   stands-read r st =
       rw (le-ltb packageLimit (length s) (st .limit), lt-ltb p (length s) (omega arith), gives-headed r (st .header), st .accepted .1)
 
@@ -108,7 +109,7 @@ module _ (s : List ℕ) (p : ℕ) where
       let l = refuse-gives (ltb packageLimit (length s)) pastEnd 0 _ none e in
       let limit = ltb-false packageLimit (length s) (l .0) in
       pick-gives (ltb p (length s)) examined (gives none) none
-      (λ i h. let z : _≡_ {A = ℕ} 0 1 = cc (examined-gives none limit h .1) in absurd (omega arith))
+      (λ i h. absurd (none-some (ap gives (examined-gives none limit h .1))))
       (λ i h. record { limit = limit; past = ltb-false p (length s) i }) (l .1)
 
   pub ends-read : Ends s p → readRule s p ≡ gives none

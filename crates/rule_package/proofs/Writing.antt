@@ -1,6 +1,5 @@
 -- Rules written one behind another: what the writer gives for them is their bytes end to end, exactly where each is sound. It rests on what the
 -- writer asks of one rule (Sound).
---   Writes rs s                    == the writer gives the bytes s for the rules rs, one behind the other
 --   writes-sound, sound-writes     == it gives the bytes of sound rules, and gives them for all sound rules
 use mathlib.Core.List.{List, [], _∷_, _++_}
 use mathlib.Core.Path.{_≡_, refl, ap₂, _∙_}
@@ -9,14 +8,9 @@ use native.Mathlib.Omega.{arith}
 use lib.ListN.{length}
 use Rattle.bits.proofs.Every.{Every}
 use Rattle.rules.specs.Outcome.{gives}
-use Rattle.rule_package.specs.Calls.{writeRule}
-use Rattle.rule_package.specs.Rule.{Rule, ruleBytes, packageBytes}
-use Rattle.rule_package.proofs.Sound.{Held, Sound, sound-write, write-sound}
-
--- "The writer puts one rule .. at the front of a lent buffer": each into what is left behind those before it, whatever the room there
-abbrev pub Writes : List Rule → List ℕ → Type 0
-Writes [] s = s ≡ []
-Writes (r ∷ rs) s = (room : ℕ) × (l : List ℕ) × (rest : List ℕ) × (writeRule r room ≡ gives l) × (s ≡ l ++ rest) × Writes rs rest
+use Rattle.rule_package.specs.Calls.{Writes}
+use Rattle.rule_package.specs.Rule.{Rule, Held, ruleBytes, packageBytes}
+use Rattle.rule_package.proofs.Sound.{Sound, sound-write, write-sound}
 
 pub writes-sound : (rs : List Rule) (s : List ℕ) → Every Held rs → Writes rs s → Every Sound rs × (s ≡ packageBytes rs)
 unfolding packageBytes

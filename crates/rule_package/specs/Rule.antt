@@ -1,5 +1,6 @@
 -- The rules of a package and their bytes, by request 4 of document 02.
 --   Rule                 == a rule: its flag count, the word of its table and its expression
+--   Held r               == the table and the expression of r are what the code's types hold
 --   headerLength         == the bytes before the expression
 --   ruleBytes r          == a rule's bytes
 --   packageBytes rs      == the bytes of rules end to end
@@ -7,11 +8,11 @@
 --   examineRule r        == the examination of a rule's expression against its own table
 use mathlib.Core.Bool.{Bool}
 use mathlib.Core.List.{List, [], _∷_, _++_}
-use Prim.Native.Nat.{ℕ, _-_, _^_}
+use Prim.Native.Nat.{ℕ, _-_, _^_, _<_}
 use lib.ListN.{length}
 use Rattle.bits.specs.Bit.{bit}
 use Rattle.bits.specs.LowFirst.{lowBytes}
-use Rattle.bits.specs.Range.{from, any}
+use Rattle.bits.specs.Range.{from, any, Below}
 use Rattle.rules.specs.Ascii.{ascii}
 use Rattle.rules.specs.Calls.{examine}
 use Rattle.rules.specs.Limits.{wordBits}
@@ -23,6 +24,12 @@ pub record Rule : Type 0 where
   pub table : ℕ
   pub expression : List ℕ
 
+-- what the code's types say of a rule: its table is a word of 64 bits, and its expression bytes
+pub record Held (r : Rule) : Type 0 where
+  pub word : r .table < 2 ^ wordBits
+  pub bytes : Below 256 (r .expression)
+
+-- the mark, the flag count, the length and the table: 2 + 1 + 2 + 8 bytes
 abbrev pub headerLength : ℕ
 headerLength = 13
 

@@ -3,10 +3,11 @@
 use mathlib.Core.Bool.{Bool, true, false, _&&_}
 use mathlib.Core.List.{List, [], _∷_}
 use Prim.Native.Nat.{ℕ, _^_}
-use lib.Dec.{T}
+use lib.Dec.{T, eqb}
 use Rattle.bits.specs.Range.{same}
 use Rattle.rules.specs.Ascii.{ascii}
 use Rattle.rules.specs.Calls.{transform, wayBack, listing, rawCosting, compile, read, evaluate, costing, cheaperOfTwo, examine}
+use Rattle.rules.specs.Limits.{packageLimit, packageFlags, badRuleMark, pastEnd, strayTableBit}
 use Rattle.rules.specs.Machine.{run}
 use Rattle.rules.specs.Tree.{VA}
 use Rattle.rules.proofs.Answers.{entriesOf, bytesOf, isRefusal, isNumber, isList, isListing, isCompilation, isParsed, isRecord, isEnd}
@@ -217,3 +218,10 @@ pub output-refusals :
     )
 unfolding computing isRefusal isListing isCompilation entriesOf bytesOf
 output-refusals = tt
+
+-- ---- request 4: "at most 65,536 bytes"; more than six flags are refused by 1; "15 when the mark is wrong or cut", "16 when header or expression
+-- runs past the end or the package is longer than allowed", "17 when a table bit stands at 2^n or above"; the calls are in rule_package
+
+pub package-limits :
+    T (eqb packageLimit 65536 && eqb packageFlags 6 && eqb badRuleMark 15 && eqb pastEnd 16 && eqb strayTableBit 17)
+package-limits = tt

@@ -3,7 +3,7 @@
 --   recordLimit, byteLimit   == the most records of an expression, and the bytes that suffice for a compiled one
 --   wordBits                 == the bits of a word: its coefficients, or its stars
 --   packageFlags, packageLimit   == the most flags of a package's rule, and the most bytes of a package
---   tooManyFlags .. strayTable   == the refusals' numbers, 1 to 17, by their conditions
+--   tooManyFlags .. strayTableBit   == the refusals' numbers, 1 to 17, by their conditions
 use Prim.Native.Nat.{ℕ}
 
 -- "above 16 (transform, way back, listing); above 6 (all others)"
@@ -25,7 +25,8 @@ byteLimit = 963
 abbrev pub wordBits : ℕ
 wordBits = 64
 
--- request 4: refused "by 1" are more flags than six, as document 01 has it for all calls but three
+-- request 4: refused "by 1" are more flags than six, as document 01 has it for all calls but three; by a name of its own, because packages keep
+-- that limit (docs/DECISIONS.md)
 abbrev pub packageFlags : ℕ
 packageFlags = 6
 
@@ -85,5 +86,5 @@ badRuleMark = 15
 abbrev pub pastEnd : ℕ
 pastEnd = 16
 
-abbrev pub strayTable : ℕ
-strayTable = 17
+abbrev pub strayTableBit : ℕ
+strayTableBit = 17

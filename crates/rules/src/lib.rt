@@ -1,6 +1,6 @@
-// The documents as mathematics: specs/ has every definition of document 01, and of the requests of document 02 that are carried out, each beside the
-// sentence that it renders, and proofs/ computes the documents' own examples with them. The only code is what every call shares: the limits, and
-// the refusal that an answer can hold. It rests on `bits`.
+// The documents as mathematics: specs/ has every definition of document 01, and of the requests of document 02 that are carried out but for those of
+// packages, which are in `rule_package`, each beside the sentence that it renders, and proofs/ computes the documents' own examples with them. The
+// only code is what every call shares: the limits, and the refusal that an answer can hold. It rests on `bits`.
 
 // Limits: flags of a form (transform, way back, listing) and of a rule (all other calls), the records of an expression,
 // and the bytes that always suffice for one that is compiled.
@@ -51,7 +51,7 @@ pub const BAD_RULE_MARK: u64 = 15;
 
 pub const PAST_END: u64 = 16;
 
-pub const STRAY_TABLE: u64 = 17;
+pub const STRAY_TABLE_BIT: u64 = 17;
 
 // A refusal: the number by which the documents know its condition, and the place it gives.
 pub struct Refusal {

@@ -36,6 +36,13 @@ impl Table {
         Table { bits }
     }
 
+    // The table that a word holds, bit s for setting s.
+    pub fn of_word(word: u64) -> Table
+        ensures { λ r. ⌜ r ≡ record { bits = word } ⌝ }
+    {
+        Table { bits: word }
+    }
+
     // The table of a complete list of entries in bytes, eight an entry, low byte first: bit 0 of an entry is bit 0 of its low byte.
     pub fn of_bytes(flags: usize, bytes: &[u8]) -> Table
         requires { ⌜ (flags ≤ ruleFlags) × (8 * 2 ^ flags ≤ length (now bytes)) ⌝ }

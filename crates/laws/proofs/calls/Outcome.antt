@@ -2,6 +2,7 @@
 -- constructors of an outcome and on the laws of stores and of lists with an entry for each number (bits, Stores and Tabulated).
 --   gives-same       == results of one outcome are equal
 --   not-both         == no outcome is a result and a refusal
+--   none-some        == no outcome is the end and a result of a reader
 --   refuse-gives     == a row that was passed does not hold, and the rest gave the result
 --   refuse-then      == a step after a row is a step after what comes behind it
 --   then-gives       == each of two steps gave a result
@@ -15,6 +16,7 @@
 --   pick, pick-gives == a choice between two outcomes: one of them gave the result
 use mathlib.Core.Bool.{Bool, true, false}
 use mathlib.Core.List.{List}
+use mathlib.Core.Option.{Option, none, some}
 use mathlib.Core.Path.{_≡_, refl, sym, ap, ap₂, _∙_}
 use Prim.Native.Nat.{ℕ, _≤_}
 use native.Mathlib.Omega.{arith}
@@ -29,6 +31,9 @@ gives-same e = cc
 
 pub not-both : {A : Type 0} {a : A} {k p : ℕ} → ¬ (gives a ≡ refuses k p)
 not-both e = let z : _≡_ {A = ℕ} 0 1 = cc in omega arith
+
+pub none-some : {A : Type 0} {a : A} → ¬ (_≡_ {A = Outcome (Option A)} (gives none) (gives (some a)))
+none-some e = let z : _≡_ {A = ℕ} 0 1 = cc in omega arith
 
 pub refuse-gives : {A : Type 0} (b : Bool) (k p : ℕ) (rest : Outcome A) (a : A) → refuse b k p rest ≡ gives a → (b ≡ false) × (rest ≡ gives a)
 refuse-gives true k p rest a e = absurd (not-both (sym e))

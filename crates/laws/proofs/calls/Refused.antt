@@ -6,7 +6,7 @@
 --   record-by                      == a record refuses by 6 and 7 at its own place
 --   ReadingBy P len, made-by       == P holds of 6 to 9 at every place before len and of 10 at len; so an expression of len bytes refuses by P
 --   judged-by, examined-by         == a verdict refuses by 12 and 13; so do an expression's reading and its verdict together
---   Placed len k p, examine-places == unless k is 12 or 13, p is at most len; so it is where the examiner refuses an expression of len bytes
+--   PlaceWithin len k p, examine-places == unless k is 12 or 13, p is at most len; so it is where the examiner refuses an expression of len bytes
 use mathlib.Core.Bool.{Bool, true, false, not}
 use mathlib.Core.List.{List, [], _∷_}
 use mathlib.Core.Logic.{_≢_}
@@ -122,15 +122,15 @@ module _ (P : ℕ → ℕ → Type 0) where
 
 -- ---- the places of an examination's refusals
 
-abbrev pub Placed : ℕ → ℕ → ℕ → Type 0
-Placed len k p = k ≢ differs → k ≢ tooCostly → p ≤ len
+abbrev pub PlaceWithin : ℕ → ℕ → ℕ → Type 0
+PlaceWithin len k p = k ≢ differs → k ≢ tooCostly → p ≤ len
 
-placed-examine : (n : ℕ) (table s : List ℕ) → By (Placed (length s)) (examine n table s)
+within-examine : (n : ℕ) (table s : List ℕ) → By (PlaceWithin (length s)) (examine n table s)
 unfolding examine withTable
-placed-examine n table s =
-    by-row (Placed (length s)) (ltb ruleFlags n) _ _ _ (omega arith)
-    (by-row (Placed (length s)) (not (complete n table)) _ _ _ (omega arith)
-    (examined-by (Placed (length s)) (omega arith) (omega arith) n table s (omega arith)))
+within-examine n table s =
+    by-row (PlaceWithin (length s)) (ltb ruleFlags n) _ _ _ (omega arith)
+    (by-row (PlaceWithin (length s)) (not (complete n table)) _ _ _ (omega arith)
+    (examined-by (PlaceWithin (length s)) (omega arith) (omega arith) n table s (omega arith)))
 
 pub examine-places : (n : ℕ) (table s : List ℕ) (k p : ℕ) → examine n table s ≡ refuses k p → k ≢ differs → k ≢ tooCostly → p ≤ length s
-examine-places n table s k p e = subst (By (Placed (length s))) e (placed-examine n table s)
+examine-places n table s k p e = subst (By (PlaceWithin (length s))) e (within-examine n table s)

@@ -1,5 +1,5 @@
 -- `package_reader::examined` meets its contract: the examiner's answer on the rule's part of the bytes, with its places counted from the package's
--- start. From Rows, and from the bound of an examination's places (laws, Refused).
+-- start. From Checked, and from the bound of an examination's places (laws, Refused).
 use mathlib.Core.Option.{some}
 use mathlib.Core.Path.{_≡_, sym, ap, _∙_}
 use Prim.Native.Nat.{ℕ, _-_}
@@ -13,23 +13,24 @@ use Rattle.rules.specs.Calls.{examine}
 use Rattle.rules.specs.Outcome.{Outcome, gives, _then_}
 use Rattle.rules.specs.Table.{wordTable}
 use Rattle.laws.proofs.calls.Refused.{examine-places}
-use Rattle.rule_package.specs.Calls.{part, RuleAt, ruleIn, fromStart}
+use Rattle.bits.specs.Part.{part}
+use Rattle.rule_package.specs.Calls.{RuleAt, ruleIn, inPackage}
 use Rattle.rule_package.specs.Rule.{examineRule}
-use Rattle.package_reader.specs.Answers.{ruleOf}
+use Rattle.package_reader.specs.Answers.{ruleAtOf}
 use Rattle.package_reader.proofs.examined.Statement.{statement}
 use Rattle.package_reader.proofs.examined.Tie as tie
 
-sub-examine-read : tie.Need-sub-examine-read
-sub-examine-read c = search needs
+sub-examine-for-reader : tie.Need-sub-examine-for-reader
+sub-examine-for-reader c = search needs
 
-part-examine-read-start : tie.Need-part-examine-read-start
-part-examine-read-start c = search needs
+part-examine-for-reader-start : tie.Need-part-examine-for-reader-start
+part-examine-for-reader-start c = search needs
 
-part-examine-read-end : tie.Need-part-examine-read-end
-part-examine-read-end c = search needs
+part-examine-for-reader-end : tie.Need-part-examine-for-reader-end
+part-examine-for-reader-end c = search needs
 
-examine-read-requires : tie.Need-examine-read-requires
-examine-read-requires c κs = search needs
+examine-for-reader-requires : tie.Need-examine-for-reader-requires
+examine-for-reader-requires c κs = search needs
 
 enum-told : tie.Need-enum-told
 enum-told c = search needs
@@ -39,9 +40,9 @@ enum-known-examination c = search needs
 
 -- the rule, and its examination on paper from what the examiner answered
 abbrev rule : tie.Start → RuleAt
-rule s = ruleOf (s .args .rule)
+rule s = ruleAtOf (s .args .rule)
 
-told : (c : tie.After-examine-read) (e : Examination) → c .examine-read .result ≡ e
+told : (c : tie.After-examine-for-reader) (e : Examination) → c .examine-for-reader .result ≡ e
     → (let s = c .before .before .before in examineRule (ruleIn (now (s .args .bytes)) (rule s)) ≡ examinationOf e)
 unfolding examineRule ruleIn
 told c e q =
@@ -49,11 +50,11 @@ told c e q =
     let r = rule s in
     let size : r .next - r .start ≡ r .length = omega (arith, s .pre .expression) in
     ap (λ (k : ℕ). examine (r .flags) (wordTable (r .flags) (r .table)) (part (now (s .args .bytes)) (r .start) k)) (sym size)
-    ∙ sym (c .examine-read .ensures) ∙ ap examinationOf q
+    ∙ sym (c .examine-for-reader .ensures) ∙ ap examinationOf q
 
-from-start-requires : tie.Need-from-start-requires
+in-package-requires : tie.Need-in-package-requires
 unfolding examineRule ruleIn
-from-start-requires c κs d h =
+in-package-requires c κs d h =
     let e = c .before .before .before in
     let s = e .before .before .before in
     let r = rule s in
@@ -63,12 +64,12 @@ from-start-requires c κs d h =
 
 -- the call from the examination
 given : (s : tie.Start) (o : Outcome ℕ) → examineRule (ruleIn (now (s .args .bytes)) (rule s)) ≡ o
-    → (fromStart (rule s .start) o then (λ k. gives (some (rule s))))
-    ≡ (fromStart (rule s .start) (examineRule (ruleIn (now (s .args .bytes)) (rule s))) then (λ k. gives (some (rule s))))
-given s o e = ap (λ (x : Outcome ℕ). fromStart (rule s .start) x then (λ k. gives (some (rule s)))) (sym e)
+    → (inPackage (rule s .start) o then (λ k. gives (some (rule s))))
+    ≡ (inPackage (rule s .start) (examineRule (ruleIn (now (s .args .bytes)) (rule s))) then (λ k. gives (some (rule s))))
+given s o e = ap (λ (x : Outcome ℕ). inPackage (rule s .start) x then (λ k. gives (some (rule s)))) (sym e)
 
 returns : tie.Need-returns
-unfolding fromStart
+unfolding inPackage
 returns c = let e = c .before .before in given (e .before .before .before) _ (told e _ (c .enum-told .given .1))
 
 returns-2 : tie.Need-returns-2
@@ -76,18 +77,18 @@ returns-2 c =
     let known = c .before .before in
     let e = known .before .before in
     let s = e .before .before .before in
-    ap (λ (x : Outcome ℕ). x then (λ k. gives (some (rule s)))) (c .from-start .ensures) ∙ given s _ (told e _ (known .examination .given .1))
+    ap (λ (x : Outcome ℕ). x then (λ k. gives (some (rule s)))) (c .in-package .ensures) ∙ given s _ (told e _ (known .examination .given .1))
 
 pub examined-spec : {M : Type 1} → statement M
 examined-spec =
     tie.close
     (tie.spec
-    sub-examine-read
-    part-examine-read-start
-    part-examine-read-end
-    examine-read-requires
+    sub-examine-for-reader
+    part-examine-for-reader-start
+    part-examine-for-reader-end
+    examine-for-reader-requires
     enum-told
     enum-known-examination
-    from-start-requires
+    in-package-requires
     returns
     returns-2)

@@ -1,15 +1,15 @@
--- `package_reader::read_rule` meets its contract: an overlong package, the end, and then the header and the examination. From Rows.
+-- `package_reader::read_rule` meets its contract: an overlong package, the end, and then the header and the examination. From Checked.
 use mathlib.Core.Option.{some}
 use mathlib.Core.Path.{_≡_, sym, ap, _∙_}
 use native.Mathlib.Omega.{arith}
 use denote.Ref.{now}
 use borrow.Author.Needs.{needs}
 use Rattle.rules.specs.Outcome.{Outcome, gives, _then_}
-use Rattle.rule_package.specs.Calls.{RuleAt, ruleIn, headed, fromStart, readRule}
+use Rattle.rule_package.specs.Calls.{RuleAt, ruleIn, headed, inPackage, readRule}
 use Rattle.rule_package.specs.Rule.{examineRule}
 use Rattle.package_reader.specs.Inner.{headerOf}
 use Rattle.package_reader.specs.declared.header.Header.{Header}
-use Rattle.package_reader.proofs.Rows.{headed-whole, read-long, read-past, read-headed}
+use Rattle.package_reader.proofs.Checked.{headed-whole, read-long, read-past, read-headed}
 use Rattle.package_reader.proofs.read_rule.Statement.{statement}
 use Rattle.package_reader.proofs.read_rule.Tie as tie
 
@@ -31,11 +31,11 @@ header c h e = sym (c .read .ensures) ∙ ap headerOf e
 
 told : (c : tie.After-read) (o : Outcome RuleAt) → headed (now (start c .args .bytes)) (start c .args .place) ≡ o
     → (let s = now (start c .args .bytes) in
-    readRule s (start c .args .place) ≡ (o then (λ r. fromStart (r .start) (examineRule (ruleIn s r)) then (λ k. gives (some r)))))
+    readRule s (start c .args .place) ≡ (o then (λ r. inPackage (r .start) (examineRule (ruleIn s r)) then (λ k. gives (some r)))))
 told c o e =
     let s = now (start c .args .bytes) in
     read-headed s (start c .args .place) (omega arith) (omega arith)
-    ∙ ap (λ (x : Outcome RuleAt). x then (λ r. fromStart (r .start) (examineRule (ruleIn s r)) then (λ k. gives (some r)))) e
+    ∙ ap (λ (x : Outcome RuleAt). x then (λ r. inPackage (r .start) (examineRule (ruleIn s r)) then (λ k. gives (some r)))) e
 
 enum-known-header : tie.Need-enum-known-header
 enum-known-header c = search needs

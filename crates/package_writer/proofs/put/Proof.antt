@@ -1,5 +1,5 @@
 -- `package_writer::put` meets its contract: row 5 with the rule's length, or the header and behind it the expression at the front of the buffer. From
--- Rows and from what a buffer holds after a call (laws, Outcome).
+-- Checked and from what a buffer holds after a call (laws, Outcome).
 use mathlib.Core.List.{List}
 use mathlib.Core.Path.{_≡_, sym, ap, _∙_}
 use Prim.Native.Nat.{ℕ}
@@ -16,9 +16,9 @@ use Rattle.rules.specs.Outcome.{Outcome, gives, refuses}
 use Rattle.laws.proofs.calls.Checked.{room-short, room-enough}
 use Rattle.laws.proofs.calls.Outcome.{left-gives}
 use Rattle.rule_package.specs.Rule.{Rule, ruleBytes}
-use Rattle.rule_package.proofs.Header.{length-ruleBytes}
+use Rattle.rule_package.proofs.RuleBytes.{length-ruleBytes}
 use Rattle.package_writer.specs.Inner.{header}
-use Rattle.package_writer.proofs.Rows.{told-refusal, ruleBytes-header}
+use Rattle.package_writer.proofs.Checked.{told-refusal, ruleBytes-header}
 use Rattle.package_writer.proofs.put.Statement.{statement}
 use Rattle.package_writer.proofs.put.Tie as tie
 

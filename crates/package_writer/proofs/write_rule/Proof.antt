@@ -1,4 +1,4 @@
--- `package_writer::write_rule` meets its contract: rows 1 and 17, the examination, and then the rule's bytes. From Rows; that the length of an
+-- `package_writer::write_rule` meets its contract: rows 1 and 17, the examination, and then the rule's bytes. From Checked; that the length of an
 -- accepted expression fits two bytes is a law of rule_package (rule_package, Sound).
 use mathlib.Core.Path.{_≡_, sym, ap, _∙_}
 use Prim.Native.Nat.{ℕ}
@@ -9,13 +9,13 @@ use Rattle.examiner.specs.Answers.{examinationOf}
 use Rattle.examiner.specs.declared.Examination.{Examination}
 use Rattle.bits.proofs.Below.{getD-below}
 use Rattle.rules.specs.Calls.{fill}
-use Rattle.rules.specs.Limits.{tooManyFlags, strayTable}
+use Rattle.rules.specs.Limits.{tooManyFlags, strayTableBit}
 use Rattle.rules.specs.Outcome.{Outcome, _then_, left}
 use Rattle.laws.proofs.calls.Outcome.{left-refuses}
 use Rattle.rule_package.specs.Calls.{writeRule}
 use Rattle.rule_package.specs.Rule.{Rule, ruleBytes, examineRule}
 use Rattle.rule_package.proofs.Sound.{accepted-limit}
-use Rattle.package_writer.proofs.Rows.{told-refusal, write-flags, write-stray, write-examined}
+use Rattle.package_writer.proofs.Checked.{told-refusal, write-flags, write-stray, write-examined}
 use Rattle.package_writer.proofs.write_rule.Statement.{statement}
 use Rattle.package_writer.proofs.write_rule.Tie as tie
 
@@ -40,22 +40,22 @@ returns-2 : tie.Need-returns-2
 returns-2 c =
     let tested = c .before .before in
     let s = tested .before .before .before .before in
-    told-refusal (s .args .out .now) _ _ strayTable 0 (c .refused2 .ensures)
+    told-refusal (s .args .out .now) _ _ strayTableBit 0 (c .refused2 .ensures)
     (write-stray (rule s) _ (tested .before .if1 .left) (sym (tested .is-stray .ensures) ∙ c .before .if2 .taken))
 
-examine-written-requires : tie.Need-examine-written-requires
-examine-written-requires c κs = search needs
+examine-for-writer-requires : tie.Need-examine-for-writer-requires
+examine-for-writer-requires c κs = search needs
 
 -- where the call began, once the rule is examined
-abbrev start : tie.After-examine-written → tie.Start
+abbrev start : tie.After-examine-for-writer → tie.Start
 start c = c .before .before .before .before .before .before
 
 -- the examination on paper, and from it the call
-examined : (c : tie.After-examine-written) (e : Examination) → c .examine-written .result ≡ e → examineRule (rule (start c)) ≡ examinationOf e
+examined : (c : tie.After-examine-for-writer) (e : Examination) → c .examine-for-writer .result ≡ e → examineRule (rule (start c)) ≡ examinationOf e
 unfolding examineRule
-examined c e q = sym (c .examine-written .ensures) ∙ ap examinationOf q
+examined c e q = sym (c .examine-for-writer .ensures) ∙ ap examinationOf q
 
-written : (c : tie.After-examine-written) (room : ℕ) (o : Outcome ℕ) → examineRule (rule (start c)) ≡ o
+written : (c : tie.After-examine-for-writer) (room : ℕ) (o : Outcome ℕ) → examineRule (rule (start c)) ≡ o
     → writeRule (rule (start c)) room ≡ (o then (λ k. fill room (ruleBytes (rule (start c)))))
 written c room o e =
     let tested = c .before .before in
@@ -104,7 +104,7 @@ write-rule-spec =
     is-stray-requires
     refused-requires-2
     returns-2
-    examine-written-requires
+    examine-for-writer-requires
     enum-told
     put-requires
     enum-known-examination

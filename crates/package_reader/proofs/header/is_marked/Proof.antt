@@ -1,9 +1,10 @@
--- `package_reader::header::is_marked` meets its contract: a mark of less than two bytes is none, and one of two is compared byte by byte. From Rows.
+-- `package_reader::header::is_marked` meets its contract: a mark of less than two bytes is none, and one of two is compared byte by byte. From
+-- Checked.
 use mathlib.Core.Path.{sym}
 use native.Mathlib.Omega.{arith}
 use denote.Ref.{now}
 use borrow.Author.Needs.{needs}
-use Rattle.package_reader.proofs.Rows.{marked-cut, marked-whole}
+use Rattle.package_reader.proofs.Checked.{marked-cut, marked-whole}
 use Rattle.package_reader.proofs.header.is_marked.Statement.{statement}
 use Rattle.package_reader.proofs.header.is_marked.Tie as tie
 

@@ -1,5 +1,5 @@
 -- `package_reader::header::read` meets its contract: 15, 16 for the header and for the expression, and then the rows of what the header says. From
--- Rows.
+-- Checked.
 use mathlib.Core.Bool.{true}
 use mathlib.Core.Path.{_≡_, sym, ap, _∙_}
 use native.Mathlib.Omega.{arith}
@@ -8,9 +8,10 @@ use borrow.Author.Needs.{needs}
 use borrow.Author.Tests.{not-true, not-false}
 use Rattle.bits.specs.Range.{same}
 use Rattle.rules.specs.Ascii.{ascii}
-use Rattle.rule_package.specs.Calls.{part, RuleAt}
-use Rattle.package_reader.specs.Inner.{headerOf, known}
-use Rattle.package_reader.proofs.Rows.{headed-mark, headed-cut, headed-short, headed-known}
+use Rattle.bits.specs.Part.{part}
+use Rattle.rule_package.specs.Calls.{RuleAt}
+use Rattle.package_reader.specs.Inner.{headerOf, limited}
+use Rattle.package_reader.proofs.Checked.{headed-mark, headed-cut, headed-short, headed-limited}
 use Rattle.package_reader.proofs.header.read.Statement.{statement}
 use Rattle.package_reader.proofs.header.read.Tie as tie
 
@@ -60,8 +61,8 @@ returns-3 c =
     ∙ sym (headed-short (now (a .bytes)) (a .place) (is-marked marked) (omega arith)
     (omega (arith, next, c .before .if3 .taken)))
 
-judged-requires : tie.Need-judged-requires
-judged-requires c κs = search needs
+limited-requires : tie.Need-limited-requires
+limited-requires c κs = search needs
 
 returns-4 : tie.Need-returns-4
 returns-4 c =
@@ -69,8 +70,8 @@ returns-4 c =
     let marked = found .before .before in
     let a = marked .before .before .before .args in
     let next = ap (λ (r : RuleAt). r .next) (found .fields .ensures) in
-    c .judged .ensures ∙ ap (λ (r : RuleAt). known r (a .place)) (found .fields .ensures)
-    ∙ sym (headed-known (now (a .bytes)) (a .place) (is-marked marked) (omega arith)
+    c .limited .ensures ∙ ap (λ (r : RuleAt). limited r (a .place)) (found .fields .ensures)
+    ∙ sym (headed-limited (now (a .bytes)) (a .place) (is-marked marked) (omega arith)
     (omega (arith, next, c .before .if3 .left)))
 
 pub read-spec : {M : Type 1} → statement M
@@ -86,5 +87,5 @@ read-spec =
     fields-requires
     refused-requires-3
     returns-3
-    judged-requires
+    limited-requires
     returns-4)

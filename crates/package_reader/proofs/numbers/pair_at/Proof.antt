@@ -1,9 +1,10 @@
--- `package_reader::numbers::pair_at` meets its contract: the second byte counts for 256. From Number.
+-- `package_reader::numbers::pair_at` meets its contract: the second byte counts for 256. From the laws of numbers in bytes (bits,
+-- LowFirst).
 use Prim.Native.Nat.{_+_}
 use native.Mathlib.Omega.{arith}
 use denote.Ref.{now}
 use borrow.Author.Needs.{needs}
-use Rattle.package_reader.proofs.Number.{number-byte, number-parts}
+use Rattle.bits.proofs.LowFirst.{number-byte, number-parts}
 use Rattle.package_reader.proofs.numbers.pair_at.Statement.{statement}
 use Rattle.package_reader.proofs.numbers.pair_at.Tie as tie
 

@@ -1,8 +1,9 @@
--- `package_reader::numbers::word_at` meets its contract: the second half counts for 2 ^ 32. From Number.
+-- `package_reader::numbers::word_at` meets its contract: the second half counts for 2 ^ 32. From the laws of numbers in bytes (bits,
+-- LowFirst).
 use native.Mathlib.Omega.{arith}
 use denote.Ref.{now}
 use borrow.Author.Needs.{needs}
-use Rattle.package_reader.proofs.Number.{number-parts}
+use Rattle.bits.proofs.LowFirst.{number-parts}
 use Rattle.package_reader.proofs.numbers.word_at.Statement.{statement}
 use Rattle.package_reader.proofs.numbers.word_at.Tie as tie
 

@@ -50,7 +50,7 @@ returns c =
     let first = second .before .before .before .before in
     let a = first .before .before .before .args in
     second .put-low2 .ensures ∙ ap (λ (l : List ℕ). sets l 5 (lowBytes 8 (a .table))) (first .put-low .ensures)
-    ∙ sets-append (lowBytes 2 (a .size)) (lowBytes 8 (a .table)) (marked first) 3
+    ∙ sets-append (lowBytes 2 (a .count)) (lowBytes 8 (a .table)) (marked first) 3
 
 pub put-header-spec : {M : Type 1} → statement M
 put-header-spec =

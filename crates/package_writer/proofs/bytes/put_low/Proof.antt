@@ -1,14 +1,14 @@
 -- `package_writer::bytes::put_low` meets its contract. The invariant: what is still to be stored from here on makes of the buffer what was to be made
--- of it at the start. A byte is the remainder by 256, and what is left is the quotient.
-use mathlib.Core.List.{List}
+-- of it at the start. From the law of a number stored byte by byte (bits, LowFirst).
 use mathlib.Core.Path.{_≡_, refl, sym, ap, ap₂, _∙_}
-use Prim.Native.Nat.{ℕ, suc, _+_, _-_, _/_, _%_, _≤_}
+use Prim.Native.Nat.{ℕ, _+_, _-_, _%_, _≤_}
 use native.Mathlib.Nat.{add-zero, sub-zero}
 use native.Mathlib.Omega.{arith}
-use lib.ListN.{length, set, length-set}
+use lib.ListN.{length, length-set}
 use lib.Seq.{sets}
 use borrow.Author.Needs.{needs}
 use Rattle.bits.specs.LowFirst.{lowBytes}
+use Rattle.bits.proofs.LowFirst.{sets-lowBytes}
 use Rattle.package_writer.proofs.bytes.put_low.Statement.{statement}
 use Rattle.package_writer.proofs.bytes.put_low.Tie as tie
 
@@ -42,24 +42,13 @@ add-i c = omega arith
 loop-less : tie.Need-loop-less Inv-loop μ-loop
 loop-less c = search needs
 
--- one byte more
-step : (out : List ℕ) (at i count rest : ℕ) → suc i ≤ count
-    → sets (set out (at + i) (rest % 256)) (at + (i + 1)) (lowBytes (count - (i + 1)) (rest / 256)) ≡ sets out (at + i) (lowBytes (count - i) rest)
-unfolding lowBytes
-step out at i count rest h =
-    let k = count - (i + 1) in
-    let e : count - i ≡ suc k = omega arith in
-    let f : at + (i + 1) ≡ suc (at + i) = omega arith in
-    ap (λ (p : ℕ). sets (set out (at + i) (rest % 256)) p (lowBytes k (rest / 256))) f
-    ∙ sym (ap (λ (j : ℕ). sets out (at + i) (lowBytes j rest)) e)
-
 loop-again : tie.Need-loop-again Inv-loop μ-loop
 loop-again c =
     let l = c .before .loop in
     let a = c .before .before .args in (
       omega arith,
       length-set (l .out) (a .at + l .i) (l .rest % 256) ∙ l .inv .1,
-      step (l .out) (a .at) (l .i) (a .count) (l .rest) (omega arith) ∙ l .inv .2,
+      sets-lowBytes (l .out) (a .at) (l .i) (a .count) (l .rest) (omega arith) ∙ l .inv .2,
     )
 
 same-length : tie.Need-same-length Inv-loop μ-loop

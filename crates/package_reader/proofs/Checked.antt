@@ -3,10 +3,10 @@
 -- tells on its Stands.
 --   marked-cut, marked-whole                     == a mark that is cut, and one byte by byte
 --   headed-mark, headed-cut, headed-short        == 15, and 16 for the header and for the expression
---   headed-known                                 == past them, the rows of what the header says
+--   headed-limited                                 == past them, the rows of what the header says
 --   headed-whole                                 == a rule that passed all four is whole
---   known-flags, known-stray, known-clean        == 1 and 17, and past them the rule
---   from-differs, from-costly, from-bytes        == places that are as before, and one that is counted from the package's start
+--   limited-flags, limited-stray, limited-clean        == 1 and 17, and past them the rule
+--   place-differs, place-costly, place-bytes        == places that are as before, and one that is counted from the package's start
 --   read-long, read-past, read-headed            == an overlong package, the end, and a rule
 use mathlib.Core.Bool.{Bool, true, false, _&&_, and-true}
 use mathlib.Core.List.{List, _++_}
@@ -22,13 +22,14 @@ use borrow.Author.Tests.{lt-ltb, le-ltb, ne-eqb}
 use Rattle.bits.specs.Range.{same}
 use Rattle.bits.proofs.Range.{same-true}
 use Rattle.rules.specs.Ascii.{ascii}
-use Rattle.rules.specs.Limits.{packageFlags, packageLimit, tooManyFlags, differs, tooCostly, badRuleMark, pastEnd, strayTable}
+use Rattle.rules.specs.Limits.{packageFlags, packageLimit, tooManyFlags, differs, tooCostly, badRuleMark, pastEnd, strayTableBit}
 use Rattle.rules.specs.Outcome.{Outcome, gives, refuses, _then_}
-use Rattle.rule_package.specs.Calls.{part, RuleAt, ruleAt, ruleIn, headed, fromStart, readRule}
+use Rattle.bits.specs.Part.{part}
+use Rattle.rule_package.specs.Calls.{RuleAt, ruleAt, ruleIn, headed, inPackage, readRule}
 use Rattle.rule_package.specs.Rule.{headerLength, strayBit, examineRule}
-use Rattle.rule_package.proofs.Header.{part-add, part-one}
+use Rattle.bits.proofs.Part.{part-add, part-one}
 use Rattle.rule_package.proofs.Stands.{headed-gives}
-use Rattle.package_reader.specs.Inner.{known, Whole}
+use Rattle.package_reader.specs.Inner.{limited, Whole}
 
 module _ (s : List ℕ) (p : ℕ) where
   pub marked-cut : length s < p + 2 → same (part s p 2) (ascii "RU") ≡ false
@@ -59,9 +60,9 @@ module _ (s : List ℕ) (p : ℕ) where
       unfolding headed
       headed-short h = rw (marked, le-ltb (length s) (p + headerLength) whole, lt-ltb (length s) (ruleAt s p .next) h)
 
-      pub headed-known : ruleAt s p .next ≤ length s → headed s p ≡ known (ruleAt s p) p
-      unfolding headed known
-      headed-known h = rw (marked, le-ltb (length s) (p + headerLength) whole, le-ltb (length s) (ruleAt s p .next) h)
+      pub headed-limited : ruleAt s p .next ≤ length s → headed s p ≡ limited (ruleAt s p) p
+      unfolding headed limited
+      headed-limited h = rw (marked, le-ltb (length s) (p + headerLength) whole, le-ltb (length s) (ruleAt s p .next) h)
 
   pub headed-whole : (r : RuleAt) → headed s p ≡ gives r → length s ≤ packageLimit → Whole s r
   headed-whole r e short =
@@ -69,31 +70,31 @@ module _ (s : List ℕ) (p : ℕ) where
       record { flags = h .flags; expression = h .next; inside = h .fits; limit = short }
 
 module _ (r : RuleAt) (p : ℕ) where
-  pub known-flags : packageFlags < r .flags → known r p ≡ refuses tooManyFlags p
-  unfolding known
-  known-flags h = rw (lt-ltb packageFlags (r .flags) h)
+  pub limited-flags : packageFlags < r .flags → limited r p ≡ refuses tooManyFlags p
+  unfolding limited
+  limited-flags h = rw (lt-ltb packageFlags (r .flags) h)
 
   module _ (few : r .flags ≤ packageFlags) where
-    pub known-stray : strayBit (r .flags) (r .table) ≡ true → known r p ≡ refuses strayTable p
-    unfolding known
-    known-stray e = rw (le-ltb packageFlags (r .flags) few, e)
+    pub limited-stray : strayBit (r .flags) (r .table) ≡ true → limited r p ≡ refuses strayTableBit p
+    unfolding limited
+    limited-stray e = rw (le-ltb packageFlags (r .flags) few, e)
 
-    pub known-clean : strayBit (r .flags) (r .table) ≡ false → known r p ≡ gives r
-    unfolding known
-    known-clean e = rw (le-ltb packageFlags (r .flags) few, e)
+    pub limited-clean : strayBit (r .flags) (r .table) ≡ false → limited r p ≡ gives r
+    unfolding limited
+    limited-clean e = rw (le-ltb packageFlags (r .flags) few, e)
 
 module _ {A : Type 0} (at k p : ℕ) where
-  pub from-differs : k ≡ differs → _≡_ {A = Outcome A} (fromStart at (refuses k p)) (refuses k p)
-  unfolding fromStart
-  from-differs e = rw e
+  pub place-differs : k ≡ differs → _≡_ {A = Outcome A} (inPackage at (refuses k p)) (refuses k p)
+  unfolding inPackage
+  place-differs e = rw e
 
-  pub from-costly : k ≡ tooCostly → _≡_ {A = Outcome A} (fromStart at (refuses k p)) (refuses k p)
-  unfolding fromStart
-  from-costly e = rw e
+  pub place-costly : k ≡ tooCostly → _≡_ {A = Outcome A} (inPackage at (refuses k p)) (refuses k p)
+  unfolding inPackage
+  place-costly e = rw e
 
-  pub from-bytes : k ≢ differs → k ≢ tooCostly → _≡_ {A = Outcome A} (fromStart at (refuses k p)) (refuses k (at + p))
-  unfolding fromStart
-  from-bytes d c = rw (ne-eqb k differs d, ne-eqb k tooCostly c)
+  pub place-bytes : k ≢ differs → k ≢ tooCostly → _≡_ {A = Outcome A} (inPackage at (refuses k p)) (refuses k (at + p))
+  unfolding inPackage
+  place-bytes d c = rw (ne-eqb k differs d, ne-eqb k tooCostly c)
 
 module _ (s : List ℕ) (p : ℕ) where
   pub read-long : packageLimit < length s → readRule s p ≡ refuses pastEnd 0
@@ -106,6 +107,6 @@ module _ (s : List ℕ) (p : ℕ) where
     read-past h = rw (le-ltb packageLimit (length s) short, le-ltb p (length s) h)
 
     pub read-headed : p < length s
-        → readRule s p ≡ (headed s p then (λ r. fromStart (r .start) (examineRule (ruleIn s r)) then (λ c. gives (some r))))
+        → readRule s p ≡ (headed s p then (λ r. inPackage (r .start) (examineRule (ruleIn s r)) then (λ c. gives (some r))))
     unfolding readRule
     read-headed h = rw (le-ltb packageLimit (length s) short, lt-ltb p (length s) h)

@@ -12,7 +12,7 @@ use borrow.Author.Tests.{lt-ltb, le-ltb}
 use Rattle.bits.specs.LowFirst.{lowBytes}
 use Rattle.rules.specs.Ascii.{ascii}
 use Rattle.rules.specs.Calls.{fill}
-use Rattle.rules.specs.Limits.{packageFlags, tooManyFlags, strayTable}
+use Rattle.rules.specs.Limits.{packageFlags, tooManyFlags, strayTableBit}
 use Rattle.rules.specs.Outcome.{Outcome, refuses, _then_, left}
 use Rattle.laws.proofs.calls.Outcome.{left-refuses}
 use Rattle.rule_package.specs.Calls.{writeRule}
@@ -32,7 +32,7 @@ module _ (r : Rule) (room : ℕ) where
   write-flags h = rw (lt-ltb packageFlags (r .flags) h)
 
   module _ (few : r .flags ≤ packageFlags) where
-    pub write-stray : strayBit (r .flags) (r .table) ≡ true → writeRule r room ≡ refuses strayTable 0
+    pub write-stray : strayBit (r .flags) (r .table) ≡ true → writeRule r room ≡ refuses strayTableBit 0
     unfolding writeRule
     write-stray e = rw (le-ltb packageFlags (r .flags) few, e)
 
