@@ -1,6 +1,6 @@
 -- What C gets tells the outcome: the returned number and the block, where it has room for the answer, are those of one outcome only. Of the
--- transform, the way back, the listing, the compiler and the writer of a package the answer tells how much of the lent buffer is the result. It rests on the definitions of
--- Block and Numbers, and on every refusal's number being above 0 (laws, Numbered).
+-- transform, the way back, the listing, the compiler and the writer of a package the answer tells how much of the lent buffer is the result. It
+-- rests on the definitions of Block and Numbers, and on every refusal's number being above 0 (laws, Numbered).
 --   answer-tells                 == number and block tell the outcome, if the block tells the result
 --   alone-tells, costs-tell      == the block tells a number; cost, size and depth
 --   reading-tells                == and a record's kind with payload and next place, or the end
