@@ -1,5 +1,5 @@
-/* It lists a rule's monomials, compiles the rule, reads its records, has it examined, asks it about stars and puts it into a package. The rule: a star may guide if at least
-   two of three flags are set. It rests on guide_rules.h.
+/* It lists a rule's monomials, compiles the rule, reads its records, has it examined, asks it about stars and puts it into a package. The rule: a
+   star may guide if at least two of three flags are set. It rests on guide_rules.h.
 
    guide_rules.expected is worked by hand from the documents, not written by this program. Document 01's marked row 00010111 gives word, records and
    costs; the definitions give the rest: word 104 has the bits 3, 5 and 6; five records of three bytes and four of two are 23 bytes; VA1 XO AN XO is

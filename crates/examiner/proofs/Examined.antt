@@ -1,6 +1,6 @@
 -- Laws of the examination against a truth function: document 01's examination is the instance of a table, only the values at the settings count, and
--- it can be read off the lanes of the walk. They rest on the laws of Settings, on tables as truth functions (table, Truth) and on the
--- laws of outcomes (laws, Outcome).
+-- it can be read off the lanes of the walk. They rest on the laws of Settings, on tables as truth functions (table, Truth), on the table that a
+-- word holds (laws, WordTable) and on the laws of rows and outcomes (laws, Checked and Outcome).
 --   examine-truth                  == document 01's examination, once rows 1 and 2 are passed
 --   examineTruth-ext               == functions that agree at every setting are examined alike
 --   examine-table                  == past those rows, the examination against the table by value

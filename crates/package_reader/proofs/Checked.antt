@@ -1,12 +1,12 @@
 -- The reader row by row: the mark, the bytes that are there, the flag count and the table; before them the package's length and the end, and behind
--- them the places of the examination. It rests on the definitions of rule_package, and for what a header
--- tells on its Stands.
+-- them the places of the examination. It rests on the definitions of rule_package, for the mark on parts and ranges (bits, Part and Range), and for
+-- what a header tells on what stands in a package (rule_package, Stands).
 --   marked-cut, marked-whole                     == a mark that is cut, and one byte by byte
 --   headed-mark, headed-cut, headed-short        == 15, and 16 for the header and for the expression
---   headed-limited                                 == past them, the rows of what the header says
+--   headed-limited                               == past them, the rows of what the header says
 --   headed-whole                                 == a rule that passed all four is whole
---   limited-flags, limited-stray, limited-clean        == 1 and 17, and past them the rule
---   place-differs, place-costly, place-bytes        == places that are as before, and one that is counted from the package's start
+--   limited-flags, limited-stray, limited-clean  == 1 and 17, and past them the rule
+--   place-differs, place-costly, place-bytes     == places that are as before, and one that is counted from the package's start
 --   read-long, read-past, read-headed            == an overlong package, the end, and a rule
 use mathlib.Core.Bool.{Bool, true, false, _&&_, and-true}
 use mathlib.Core.List.{List, _++_}

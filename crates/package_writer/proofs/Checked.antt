@@ -1,4 +1,5 @@
--- The writer row by row, and the bytes of a rule as its header with the expression behind it. It rests on the definitions of rule_package.
+-- The writer row by row, and the bytes of a rule as its header with the expression behind it. It rests on the definitions of rule_package and on
+-- what a buffer holds after a refusal (laws, Outcome).
 --   told-refusal                 == both promises of the writer where it refuses
 --   write-flags, write-stray     == rows 1 and 17
 --   write-examined               == past them, the examination and then the rule's bytes

@@ -1,5 +1,6 @@
--- Request 4 of document 02, computed with the definitions: a rule in a package, and the reader with its refusals in their order. The values are
--- worked by hand from the request's sentences, which the comments quote, and from how its open points are read; nothing here came from a program.
+-- Request 4 of document 02, computed with the definitions: a rule in a package, the reader with its refusals in their order, and rules read and
+-- written one behind the other. The values are worked by hand from the request's sentences, which the comments quote, and from how its open points
+-- are read; nothing here came from a program.
 --   refusedIn, refusedFor    == the reader refuses a rule so, alone and behind another rule; for is for a place that is no byte
 --   isOverlong, isAllowed    == a package of 65,537 bytes is refused at each of some places, and one of 65,536 is not
 use mathlib.Core.Bool.{Bool, false, _&&_, false≢true}

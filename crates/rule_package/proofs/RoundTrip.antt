@@ -1,5 +1,6 @@
 -- The theorems of request 4, beside its sentences: what is written is read back, what is read is written the same, and each rule read is one that the
--- examiner accepts. They rest on what the reader gives (Stands), on what the writer asks (Sound) and on rules end to end (Reading).
+-- examiner accepts. They rest on the bytes of one rule (RuleBytes), on what the reader gives (Stands), on what the writer asks (Sound) and on rules
+-- end to end, read (Reading) and written (Writing).
 --   read-accepted            == a rule read is one that the examiner accepts against its own table
 --   read-next, read-end      == its next place is behind its bytes; the end is given at or past the package's length
 --   write-length, write-room == what the writer gives for a rule has the rule's length, and 976 bytes are room for it

@@ -1,5 +1,6 @@
 -- What the writer asks of a rule, that it gives exactly such a rule's bytes, and that each rule read is such a rule. It rests on the rows of the
--- writer, on the three conditions of the mission (laws, Accepts) and on what the reader gives (Stands).
+-- writer, on the three conditions of the mission and the bytes of an expression (laws, Accepts and Bytes), on numbers in bytes and parts of a list
+-- (bits, LowFirst and Part) and on what the reader gives (Stands).
 --   Sound r                    == r is a rule that the writer writes, where there is room
 --   accepted-limit             == an expression that the examiner accepts has at most 963 bytes, so that two bytes hold its length
 --   sound-limit                == so has a sound rule's

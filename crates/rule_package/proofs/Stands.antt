@@ -1,5 +1,5 @@
 -- What the reader gives: exactly the rule that stands at the place, one that the examiner accepts against its own table, or the end exactly at or
--- past the package's length. It rests on steps of outcomes (laws, Outcome).
+-- past the package's length. It rests on steps of outcomes (laws, Outcome) and on comparisons and disjunctions (bits, Range and Truth).
 --   Headed s p r                   == the header of the rule r stands at place p of the bytes s, and the bytes of r are whole
 --   headed-gives, gives-headed     == the rows 15, 16, 1 and 17 are passed exactly there
 --   Stands s p r                   == the rule r stands at place p of the package s: its header does, and the examiner accepts it

@@ -1,7 +1,7 @@
--- The limits of document 01 and the numbers of its refusals and of document 02's, each named once.
+-- The limits and the numbers of the refusals of documents 01 and 02, each named once.
 --   formFlags, ruleFlags     == the most flags of the transform, the way back and the listing, and of all other calls
 --   recordLimit, byteLimit   == the most records of an expression, and the bytes that suffice for a compiled one
---   wordBits                 == the bits of a word: its coefficients, or its stars
+--   wordBits                 == the bits of a word: its coefficients, its stars, or a table's entries
 --   packageFlags, packageLimit   == the most flags of a package's rule, and the most bytes of a package
 --   tooManyFlags .. strayTableBit   == the refusals' numbers, 1 to 17, by their conditions
 use Prim.Native.Nat.{ℕ}

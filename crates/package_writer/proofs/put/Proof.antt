@@ -1,5 +1,6 @@
 -- `package_writer::put` meets its contract: row 5 with the rule's length, or the header and behind it the expression at the front of the buffer. From
--- Checked and from what a buffer holds after a call (laws, Outcome).
+-- Checked, from the length of a rule's bytes (rule_package, RuleBytes), from a run after a run (bits, Stores), and from the row of room and what a
+-- buffer holds after a call (laws, Checked and Outcome).
 use mathlib.Core.List.{List}
 use mathlib.Core.Path.{_≡_, sym, ap, _∙_}
 use Prim.Native.Nat.{ℕ}
