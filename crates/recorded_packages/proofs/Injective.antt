@@ -13,6 +13,7 @@ use lib.ListN.{getD}
 use Rattle.bits.proofs.Injective.{told-apart}
 use Rattle.rules.specs.Outcome as result
 use Rattle.rules.specs.Outcome.{gives, refuses}
+use Rattle.laws.proofs.calls.Outcome.{pick}
 use Rattle.rule_package.specs.Calls.{RuleAt}
 use Rattle.package_reader.specs.Answers.{ruleReadingOf}
 use Rattle.package_reader.specs.declared.RuleReading.{RuleReading}
@@ -22,10 +23,6 @@ use Rattle.package_writer.specs.declared.Writing.the-variants as writing
 use Rattle.comparison.specs.declared.outcome.Outcome.{Outcome}
 use Rattle.recorded_packages.specs.Readings.{numbersOf}
 use Rattle.recorded_packages.specs.Writings.{writtenBy}
-
-abbrev pick : {A : Type 0} → Bool → A → A → A
-pick true a b = a
-pick false a b = b
 
 abbrev rule : List ℕ → RuleAt
 rule l = record { flags = getD l 2 0; table = getD l 3 0; start = getD l 4 0; length = getD l 5 0; next = getD l 6 0 }

@@ -3,19 +3,17 @@
 -- are read; nothing here came from a program.
 --   refusedIn, refusedFor    == the reader refuses a rule so, alone and behind another rule; for is for a place that is no byte
 --   isOverlong, isAllowed    == a package of 65,537 bytes is refused at each of some places, and one of 65,536 is not
-use mathlib.Core.Bool.{Bool, false, _&&_, false≢true}
+use mathlib.Core.Bool.{Bool, _&&_, false≢true}
 use mathlib.Core.List.{List, [], _∷_, _++_}
 use mathlib.Core.Path.{_≡_, refl, sym, ap}
-use Prim.Native.Nat.{ℕ, _+_, _-_, _^_, _≤_}
+use Prim.Native.Nat.{ℕ, _+_, _-_, _^_}
 use native.Mathlib.Omega.{arith}
 use lib.Dec.{T}
 use lib.ListN.{length, take, drop, replicate}
-use Rattle.bits.specs.Range.{same}
 use Rattle.rules.specs.Outcome.{gives, refuses}
 use Rattle.rules.proofs.Answers.{isRefusal, isNumber}
-use Rattle.bits.specs.Part.{part}
 use Rattle.rule_package.specs.Calls.{Writes, ruleAt, ruleIn, ruleFrom, placed, headed, inPackage, readRule, Reads}
-use Rattle.rule_package.specs.Rule.{ruleBytes, strayBit}
+use Rattle.rule_package.specs.Rule.{ruleBytes}
 use Rattle.rule_package.proofs.Answers.{packaging, rule, bytes, isRule, isRuleAt, isPlaced, isHeaded, isRead, isEnd, two, first, second, long}
 
 -- ---- a rule in a package

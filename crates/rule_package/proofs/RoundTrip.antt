@@ -3,6 +3,7 @@
 -- end to end, read (Reading) and written (Writing).
 --   read-accepted            == a rule read is one that the examiner accepts against its own table
 --   read-next, read-end      == its next place is behind its bytes; the end is given at or past the package's length
+--   never-stray              == with six flags or more 17 cannot occur
 --   write-length, write-room == what the writer gives for a rule has the rule's length, and 976 bytes are room for it
 --   read-written             == a written rule is read with its next place, and is the rule, wherever in a package it stands
 --   reads-package            == the bytes of sound rules end to end are read as these rules, and then the end
@@ -10,25 +11,28 @@
 --   write-read               == a rule that is read is written as the bytes that were read
 --   package-reads, writes-read == so are all rules of a package, end to end and by the writer
 --   reading-one, rules-one   == bytes have one reading, and are written for no other rules
+use mathlib.Core.Bool.{false}
 use mathlib.Core.List.{List, [], _++_, map}
 use mathlib.Core.Logic.{_↔_}
 use mathlib.Core.Option.{none, some}
 use mathlib.Core.Path.{_≡_, sym, ap, _∙_}
-use Prim.Native.Nat.{ℕ, _+_, _-_, _≤_}
+use Prim.Native.Nat.{ℕ, _+_, _-_, _^_, _≤_}
+use native.Mathlib.Nat.{sub-eq-zero-of-le}
 use native.Mathlib.Omega.{arith}
 use lib.ListN.{length}
+use lib.Pow.{pow-mono}
 use Rattle.bits.specs.Part.{part}
-use Rattle.bits.specs.Range.{Below}
+use Rattle.bits.specs.Range.{from, any, Below}
 use Rattle.bits.proofs.Every.{Every}
 use Rattle.bits.proofs.Part.{length-part}
 use Rattle.rules.specs.Limits.{byteLimit, packageLimit}
 use Rattle.rules.specs.Outcome.{gives}
 use Rattle.rule_package.specs.Calls.{RuleAt, ruleFrom, placed, ruleIn, writeRule, Writes, readRule, Reads}
-use Rattle.rule_package.specs.Rule.{Rule, Held, headerLength, ruleBytes, packageBytes, examineRule}
+use Rattle.rule_package.specs.Rule.{Rule, Held, headerLength, ruleBytes, packageBytes, strayBit, examineRule}
 use Rattle.rule_package.proofs.RuleBytes.{length-ruleBytes, ruleIn-ruleBytes}
 use Rattle.rule_package.proofs.Reading.{sound-read, stands-ruleBytes, reads-placed, rules-placed}
 use Rattle.rule_package.proofs.Reading.{packageBytes-reads, reads-sound, reads-unique, packageBytes-injective}
-use Rattle.rule_package.proofs.Sound.{Sound, sound-limit, sound-write, write-sound, stands-sound}
+use Rattle.rule_package.proofs.Sound.{Sound, sound-limit, sound-write, write-passes, write-sound, stands-sound}
 use Rattle.rule_package.proofs.Stands.{read-stands, read-ends, ends-read}
 use Rattle.rule_package.proofs.Writing.{writes-sound, sound-writes}
 
@@ -50,11 +54,20 @@ module _ (s : List ℕ) (p : ℕ) where
   pub read-end : length s ≤ packageLimit → (readRule s p ≡ gives none) ↔ (length s ≤ p)
   read-end limit = ((λ e. read-ends s p e .past), (λ h. ends-read s p record { limit = limit; past = h }))
 
+-- ---- "with 17 when a table bit stands at 2^n or above"
+
+-- of six flags every bit of a word stands below 2^n, and of more flags too: 17 cannot occur there, so that 1 and 17 never meet
+pub never-stray : (n w : ℕ) → 6 ≤ n → strayBit n w ≡ false
+unfolding strayBit from any
+never-stray n w h =
+    let none-left : 64 - 2 ^ n ≡ 0 = sub-eq-zero-of-le (pow-mono h) in
+    rw none-left
+
 -- ---- what is written is read back
 
 -- "The writer answers the rule's length"
-pub write-length : (r : Rule) (room : ℕ) (l : List ℕ) → Held r → writeRule r room ≡ gives l → length l ≡ headerLength + length (r .expression)
-write-length r room l h e = rw (write-sound r room l h e .1) (length-ruleBytes r)
+pub write-length : (r : Rule) (room : ℕ) (l : List ℕ) → writeRule r room ≡ gives l → length l ≡ headerLength + length (r .expression)
+write-length r room l e = rw (write-passes r room l e .3) (length-ruleBytes r)
 
 -- 13 and 963 bytes suffice for every rule that the writer writes
 pub write-room : (r : Rule) (room : ℕ) → Sound r → headerLength + byteLimit ≤ room → writeRule r room ≡ gives (ruleBytes r)

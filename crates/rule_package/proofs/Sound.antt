@@ -4,6 +4,7 @@
 --   Sound r                    == r is a rule that the writer writes, where there is room
 --   accepted-limit             == an expression that the examiner accepts has at most 963 bytes, so that two bytes hold its length
 --   sound-limit                == so has a sound rule's
+--   write-passes               == what the writer gives is a rule's bytes, of a rule that passed its rows, within the room
 --   sound-write, write-sound   == the writer gives a rule's bytes exactly where the rule is sound and there is room for them
 --   stands-sound               == a rule that stands in a package is sound
 use mathlib.Core.Bool.{false}
@@ -51,18 +52,27 @@ module _ (r : Rule) where
     unfolding writeRule fill withRoom
     sound-write h enough = rw (le-ltb packageFlags (r .flags) (h .flags), h .clean, h .accepted .1, le-ltb room (length (ruleBytes r)) enough)
 
-    pub write-sound : (l : List ℕ) → Held r → writeRule r room ≡ gives l → Sound r × (l ≡ ruleBytes r) × (length l ≤ room)
+    pub write-passes : (l : List ℕ) → writeRule r room ≡ gives l
+        → (r .flags ≤ packageFlags) × (strayBit (r .flags) (r .table) ≡ false) × ((c : ℕ) × (examineRule r ≡ gives c))
+        × (l ≡ ruleBytes r) × (length l ≤ room)
     unfolding writeRule fill withRoom
-    write-sound l held e =
+    write-passes l e =
         let x = refuse-gives (ltb packageFlags (r .flags)) tooManyFlags 0 _ l e in
         let y = refuse-gives (strayBit (r .flags) (r .table)) strayTableBit 0 _ l (x .1) in
         let z = then-gives (examineRule r) _ l (y .1) in
         let w = refuse-gives (ltb room (length (ruleBytes r))) shortOutput (length (ruleBytes r)) _ l (z .2) in
         let same : l ≡ ruleBytes r = sym (gives-same (w .1)) in (
-          record { held = held; flags = ltb-false packageFlags (r .flags) (x .0); clean = y .0; accepted = (z .0, z .1) },
+          ltb-false packageFlags (r .flags) (x .0),
+          y .0,
+          (z .0, z .1),
           same,
           rw same (ltb-false room (length (ruleBytes r)) (w .0)),
         )
+
+    pub write-sound : (l : List ℕ) → Held r → writeRule r room ≡ gives l → Sound r × (l ≡ ruleBytes r) × (length l ≤ room)
+    write-sound l held e =
+        let w = write-passes l e in
+        (record { held = held; flags = w .0; clean = w .1; accepted = w .2 }, w .3, w .4)
 
 module _ (s : List ℕ) (small : Below 256 s) where
   word-part : (p : ℕ) → p + 8 ≤ length s → lowFirst (part s p 8) < 2 ^ wordBits

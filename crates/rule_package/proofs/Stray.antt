@@ -1,12 +1,10 @@
--- Stray bits of a table word: it has one exactly where, as a word of coefficients, it has a stray one, and with six flags or more it has none. It
--- rests on the laws of coefficient words (laws, Packed) and of ranges (bits, Range).
+-- Stray bits of a table word: it has one exactly where, as a word of coefficients, it has a stray one. It rests on the laws of coefficient words
+-- (laws, Packed) and of ranges (bits, Range).
 --   stray-bit        == the word by itself has a stray coefficient exactly where it has a stray bit
---   never-stray      == six flags or more
-use mathlib.Core.Bool.{true, false}
+use mathlib.Core.Bool.{true}
 use mathlib.Core.List.{[], _∷_}
 use mathlib.Core.Path.{_≡_, sym, ap, _∙_}
 use Prim.Native.Nat.{ℕ, _+_, _-_, _*_, _^_, _≤_, _<_}
-use native.Mathlib.Nat.{sub-eq-zero-of-le}
 use native.Mathlib.Omega.{arith}
 use lib.Dec.{leb, ltb}
 use lib.Pow.{pow-mono}
@@ -34,10 +32,3 @@ stray-bit n w few =
 
     first : (m : ℕ) → m < wordBits → packed (w ∷ []) m ≡ bit w m
     first m h = let e : m ≡ wordBits * 0 + m = omega arith in ap (packed (w ∷ [])) e ∙ packed-at (w ∷ []) 0 m h
-
--- of six flags every bit of a word stands below 2^n, and of more flags too: 17 cannot occur there, so that 1 and 17 never meet
-pub never-stray : (n w : ℕ) → 6 ≤ n → strayBit n w ≡ false
-unfolding strayBit from any
-never-stray n w h =
-    let none-left : 64 - 2 ^ n ≡ 0 = sub-eq-zero-of-le (pow-mono h) in
-    rw none-left

@@ -7,7 +7,6 @@ use Prim.Native.Nat.{ℕ}
 use native.Mathlib.Omega.{arith}
 use lib.ListN.{length}
 use Rattle.bits.proofs.Every.{Every}
-use Rattle.rules.specs.Outcome.{gives}
 use Rattle.rule_package.specs.Calls.{Writes}
 use Rattle.rule_package.specs.Rule.{Rule, Held, ruleBytes, packageBytes}
 use Rattle.rule_package.proofs.Sound.{Sound, sound-write, write-sound}
