@@ -1,5 +1,5 @@
 //! The library's calls over slices: the functions of include/guide_rules.h, each with an answer block of its own. A call gives the refusal's number, 0
-//! for none; `value`, `evaluate_stars`, `raw_cost` and those on packages give the result. It rests on the static library `guide_rules`.
+//! for none; `read`, `value`, `evaluate_stars`, `raw_cost` and those on packages give the result. It rests on the static library `guide_rules`.
 
 #[link(name = "guide_rules", kind = "static")]
 extern "C" {
@@ -8,6 +8,7 @@ extern "C" {
     fn rule_listing(flags: u64, words: *const u64, count: u64, out: *mut u32, room: u64, answer: *mut u64, answers: u64) -> u64;
     fn rule_raw_cost(flags: u64, words: *const u64, count: u64, answer: *mut u64, answers: u64) -> u64;
     fn rule_compile(flags: u64, table: *const u64, entries: u64, out: *mut u8, room: u64, answer: *mut u64, answers: u64) -> u64;
+    fn rule_read(flags: u64, bytes: *const u8, length: u64, place: u64, answer: *mut u64, answers: u64) -> u64;
     fn rule_evaluate(flags: u64, bytes: *const u8, length: u64, setting: u64, answer: *mut u64, answers: u64) -> u64;
     fn rule_evaluate_stars(flags: u64, words: *const u64, count: u64, bytes: *const u8, length: u64, answer: *mut u64, answers: u64) -> u64;
     fn rule_cost(flags: u64, bytes: *const u8, length: u64, answer: *mut u64, answers: u64) -> u64;
@@ -53,6 +54,11 @@ pub fn raw_cost(flags: usize, words: &[u64]) -> u64 {
 
 pub fn compile(flags: usize, table: &[u64], out: &mut [u8]) -> u64 {
     answered(|a, k| unsafe { rule_compile(flags as u64, table.as_ptr(), table.len() as u64, out.as_mut_ptr(), out.len() as u64, a, k) })
+}
+
+/// The kind of the record at a place.
+pub fn read(flags: usize, bytes: &[u8], place: usize) -> u64 {
+    given(|a, k| unsafe { rule_read(flags as u64, bytes.as_ptr(), bytes.len() as u64, place as u64, a, k) })
 }
 
 pub fn evaluate(flags: usize, bytes: &[u8], setting: usize) -> u64 {

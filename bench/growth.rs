@@ -85,6 +85,10 @@ pub fn print(random: &mut Random) {
         let w = packed(n, t);
         black_box(calls::listing(n, &w, &mut masks));
     });
+    // The last record of more than one is an operator, of two bytes.
+    over_records("reading the last record", random, |_, b| {
+        black_box(calls::read(6, b, if b.len() > 3 { b.len() - 2 } else { 0 }));
+    });
     over_records("costing", random, |_, b| {
         black_box(calls::cost(6, b));
     });

@@ -24,6 +24,7 @@ static void transform(void) { rule_transform(FLAGS, table, SETTINGS, words, SETT
 static void way_back(void) { rule_way_back(FLAGS, words, SETTINGS / 64, entries, SETTINGS, answer, GUIDE_RULES_ANSWER_LIMIT); }
 static void listing(void) { rule_listing(FLAGS, words, SETTINGS / 64, masks, SETTINGS, answer, GUIDE_RULES_ANSWER_LIMIT); }
 static void raw_cost(void) { rule_raw_cost(6, table, 1, answer, GUIDE_RULES_ANSWER_LIMIT); }
+static void reading(void) { rule_read(6, bytes, length, length - 2, answer, GUIDE_RULES_ANSWER_LIMIT); }
 static void costing(void) { rule_cost(6, bytes, length, answer, GUIDE_RULES_ANSWER_LIMIT); }
 static void evaluate(void) { rule_evaluate(6, bytes, length, 37, answer, GUIDE_RULES_ANSWER_LIMIT); }
 static void evaluate_stars(void) { rule_evaluate_stars(6, table, 6, bytes, length, answer, GUIDE_RULES_ANSWER_LIMIT); }
@@ -83,6 +84,7 @@ int main(void)
         memcpy(bytes + length, "VA", 3), length += 3;
     for (int i = 0; i < RECORDS / 2; i++)
         memcpy(bytes + length, "XO", 2), length += 2;
+    row("reading the last record", "385 records, 193 operands deep", used(reading));
     row("costing", "385 records, 193 operands deep", used(costing));
     row("evaluation", "385 records, 193 operands deep", used(evaluate));
     row("64 stars", "385 records, 193 operands deep", used(evaluate_stars));

@@ -1,12 +1,14 @@
-/* It lists a rule's monomials, compiles the rule, reads its records, has it examined, asks it about stars and puts it into a package. The rule: a
-   star may guide if at least two of three flags are set. It rests on guide_rules.h.
+/* It lists a rule's monomials, compiles the rule, reads its records and the operands of its operators, has it examined, asks it about stars and puts
+   it into a package. The rule: a star may guide if at least two of three flags are set. It rests on guide_rules.h.
 
    guide_rules.expected is worked by hand from the documents, not written by this program. Document 01's marked row 00010111 gives word, records and
    costs; the definitions give the rest: word 104 has the bits 3, 5 and 6; five records of three bytes and four of two are 23 bytes; VA1 XO AN XO is
-   a longest way to the root; the raw form has 11 records; and the row 01111000 first differs from this one at setting 1. Stars 0 to 7 have the
-   settings 0 to 7 and the others setting 0, so by the table the stars 3, 5, 6 and 7 may guide. By request 4 the two rules of the package take 13 bytes
-   more than their expressions, 36 and 26; the table word has the bits 3, 5, 6 and 7, which is 232, and that of 01111000 the bits 1 to 4, which is 30;
-   a package cut in its last rule is refused by 16 at that rule. */
+   a longest way to the root; the raw form has 11 records; and the row 01111000 first differs from this one at setting 1. The records start at 0, 3,
+   6, 9, 11, 13, 16, 19 and 21, and those of the row 0100, VA0 VA1 NO AN, at 0, 3, 6 and 8; by request 5 place 7, inside the OR of 01111000, is
+   refused by 8, and the end of a cut expression by 6, where the cut record begins. Stars 0 to 7 have the settings 0 to 7 and the others setting 0, so
+   by the table the stars 3, 5, 6 and 7 may guide. By request 4 the two rules of the package take 13 bytes more than their expressions, 36 and 26; the
+   table word has the bits 3, 5, 6 and 7, which is 232, and that of 01111000 the bits 1 to 4, which is 30; a package cut in its last rule is refused
+   by 16 at that rule. */
 #include "guide_rules.h"
 
 #include <inttypes.h>
@@ -21,7 +23,11 @@ static const uint8_t raw[] = {'V', 'A', 0, 'V', 'A', 1, 'A', 'N', 'V', 'A', 0, '
                               'V', 'A', 1, 'V', 'A', 2, 'A', 'N', 'X', 'O', 'X', 'O'};
 /* The rule 01111000. */
 static const uint8_t other[] = {'V', 'A', 0, 'V', 'A', 1, 'O', 'R', 'V', 'A', 2, 'X', 'O'};
+/* The rule 0100. */
+static const uint8_t negated[] = {'V', 'A', 0, 'V', 'A', 1, 'N', 'O', 'A', 'N'};
 static const uint8_t cut[] = {'V', 'A', 0, 'V', 'A', 1, 'O'};
+
+static const char *const marks[] = {"", "CO", "VA", "AN", "OR", "XO", "NO"};
 
 /* A word for each flag: star j, from 0 to 7, has the setting j, and every other star the setting 0. */
 static const uint64_t stars[FLAGS] = {0xaa, 0xcc, 0xf0};
@@ -83,23 +89,60 @@ static void coefficients_listed(void)
         printf("%" PRIu64 "\n", answer[0]);
 }
 
+/* The record at a place; whether there is one. */
+static int found(const uint8_t *bytes, uint64_t length, uint64_t place, uint64_t *answer)
+{
+    return !refused(rule_read(FLAGS, bytes, length, place, answer, GUIDE_RULES_ANSWER_LIMIT), answer) && answer[0] != GUIDE_RULES_KIND_END;
+}
+
 /* The records in document 01's notation. */
 static void records_read(const uint8_t *bytes, uint64_t length)
 {
-    static const char *const marks[] = {"", "CO", "VA", "AN", "OR", "XO", "NO"};
     uint64_t answer[GUIDE_RULES_ANSWER_LIMIT];
 
-    printf("records: ");
-    for (uint64_t place = 0;; place = answer[2]) {
-        if (refused(rule_read(FLAGS, bytes, length, place, answer, GUIDE_RULES_ANSWER_LIMIT), answer))
-            return;
-        if (answer[0] == GUIDE_RULES_KIND_END)
-            break;
-        printf("%s%s", place == 0 ? "" : " ", marks[answer[0]]);
+    for (uint64_t place = 0; found(bytes, length, place, answer); place = answer[2]) {
+        printf(" %s", marks[answer[0]]);
         if (answer[0] == GUIDE_RULES_KIND_CO || answer[0] == GUIDE_RULES_KIND_VA)
             printf("%" PRIu64, answer[1]);
     }
-    printf("\n");
+}
+
+/* The operand that is the bytes from a start up to a place. */
+static void operand_read(const uint8_t *bytes, uint64_t start, uint64_t place)
+{
+    printf(" from %" PRIu64, start);
+    records_read(bytes + start, place - start);
+}
+
+/* Each operator with its operands, as a page that draws it takes them. */
+static void operators_read(const uint8_t *bytes, uint64_t length)
+{
+    uint64_t answer[GUIDE_RULES_ANSWER_LIMIT];
+
+    for (uint64_t place = 0; found(bytes, length, place, answer); place = answer[2]) {
+        if (answer[0] == GUIDE_RULES_KIND_CO || answer[0] == GUIDE_RULES_KIND_VA)
+            continue;
+        printf("%s at %" PRIu64 ":", marks[answer[0]], place);
+        if (answer[0] == GUIDE_RULES_KIND_NO) {
+            operand_read(bytes, answer[3], place);
+        } else {
+            operand_read(bytes, answer[3], answer[4]);
+            printf(",");
+            operand_read(bytes, answer[4], place);
+        }
+        printf("\n");
+    }
+}
+
+/* Places at which there is no record: inside one, and behind one that is refused. */
+static void places_refused(void)
+{
+    uint64_t answer[GUIDE_RULES_ANSWER_LIMIT];
+
+    printf("other from 7: ");
+    found(other, sizeof other, 7, answer);
+    printf("cut from 7: ");
+    found(cut, sizeof cut, 7, answer);
 }
 
 /* The examiner's verdict, and whether the rule may be loaded. */
@@ -207,7 +250,12 @@ int main(void)
     length = answer[0];
     printf("bytes %" PRIu64 ", records %" PRIu64 ", cost %" PRIu64 ", raw cost %" PRIu64 "\n", length, answer[1], answer[2], answer[3]);
 
+    printf("records:");
     records_read(compiled, length);
+    printf("\n");
+    operators_read(compiled, length);
+    operators_read(negated, sizeof negated);
+    places_refused();
     costs_told(compiled, length);
     printf("cheaper of compiled and raw: %s\n", cheaper[rule_cheaper(FLAGS, compiled, length, raw, sizeof raw)]);
     printf("cheaper of compiled and cut: %s\n", cheaper[rule_cheaper(FLAGS, compiled, length, cut, sizeof cut)]);

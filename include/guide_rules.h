@@ -50,13 +50,15 @@
       6       one byte left, or an unknown mark                                             the record's first byte
       7       a payload that is absent, a constant above 1, an index of n or more           the record's first byte
       8       too few operands                                                              the record's first byte
+      8       a place below the length that is not the first byte of a record (rule_read)   that place
      10       no bytes, or more than one operand left                                       the length
      12       the value differs from the table's bit                                        the smallest such setting
      13       the cost is above the cost of the table's raw form                            the cost
       5       an output shorter than the result                                             the length needed, in the output's own entries
 
-   9, 6, 7 and 8 run record by record, before 10. package_read gives the places of 6 to 9 as bytes of the package, and that of 10 as the byte after the
-   expression; those of 12 and 13 stay a setting and a cost. Its 16 at place 0 is the first rule's where the package has at most 65,536 bytes.
+   9, 6, 7 and 8 run record by record from byte 0, before 10 and before the 8 of a place. package_read gives the places of 6 to 9 as bytes of the
+   package, and that of 10 as the byte after the expression; those of 12 and 13 stay a setting and a cost. Its 16 at place 0 is the first rule's where
+   the package has at most 65,536 bytes.
 
    Lent memory
 
@@ -97,7 +99,7 @@ enum guide_rules_refusal {
     GUIDE_RULES_SHORT_OUTPUT = 5,
     GUIDE_RULES_BAD_MARK = 6,
     GUIDE_RULES_BAD_PAYLOAD = 7,
-    GUIDE_RULES_FEW_OPERANDS = 8,
+    GUIDE_RULES_FEW_OPERANDS = 8, /* of rule_read also a place that is not the first byte of a record */
     GUIDE_RULES_MANY_RECORDS = 9,
     GUIDE_RULES_BAD_END = 10,
     GUIDE_RULES_BAD_SETTING = 11,
@@ -160,9 +162,18 @@ uint64_t rule_raw_cost(uint64_t flags, const uint64_t *coefficients, uint64_t wo
 uint64_t rule_compile(uint64_t flags, const uint64_t *table, uint64_t entries, uint8_t *out, uint64_t out_bytes, uint64_t *answer,
                       uint64_t answers);
 
-/* The record that starts at a place, or the end where no byte is left there, as at any place from the length on. The next place is the byte after the
-   record; a walk over all records starts at 0.
-   Refuses by 1 (6 flags), 6, 7. Results: the kind, and nothing more at the end; the payload, 0 where there is none; the next place. */
+/* The record that starts at a place, with the first byte of each of its operands, or the end at any place from the length on. The records are read
+   from byte 0 up to the one at the place; what stands behind it is not read, and that operands are left over is no refusal.
+   AN, OR and XO have two operands, NO has one, the first, and CO and VA have none. Of AN, OR or XO at p whose operands start at a and b, the bytes
+   from a up to b are the first operand whole and those from b up to p the second; of NO at p the bytes from its start up to p are its operand. (From
+   a up to b: lend `bytes + a` and the length b - a.) An operand may start at 0, so the kind tells whether there is one, not the start.
+   A walk over all records starts at 0 and goes on at the next place, the byte after the record. The time of a call grows with its place, so that of a
+   walk grows with the square of the length; a call reads at most 385 records.
+   Refuses by 1 (6 flags), also at the end; then by 9, 6, 7, 8 record by record from byte 0, the record at the place included, so that at a place
+   inside or behind a refused record, and from the length on too, the answer is that record's refusal; then by 8, with the place itself, at a place
+   below the length that is not the first byte of a record.
+   Results: the kind, and nothing more at the end; the payload, 0 where there is none; the next place; the start of the first operand; that of the
+   second; each of these two is 0 where there is none. */
 uint64_t rule_read(uint64_t flags, const uint8_t *bytes, uint64_t length, uint64_t place, uint64_t *answer, uint64_t answers);
 
 /* The value at one setting.

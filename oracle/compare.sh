@@ -68,6 +68,10 @@ python3 "$here/expression_cases.py" "$scratch/made"
 compare replay_expressions cases.bin
 compare replay_expressions wrong_cases.bin
 
+python3 -B "$here/reading_cases.py" "$scratch/made" >/dev/null
+compare replay_expressions readings.bin
+compare replay_expressions wrong_readings.bin
+
 python3 -B "$here/star_cases.py" "$scratch/made"
 compare replay_expressions stars.bin
 compare replay_expressions wrong_stars.bin

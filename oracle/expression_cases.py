@@ -1,14 +1,15 @@
 #!/usr/bin/env python3
-"""Records cases of the calls that take an expression, in cases.bin of the folder named: every row of document 01's refusal table at its edges,
-and damaged copies of good expressions; and cases with a wrong outcome in wrong_cases.bin. It rests on document 01 alone: the model below is
-written from its text, apart from the library and from the original Rust, and the format is in the README beside the recorded files.
+"""Records cases of the calls that take an expression, and of raw costing, in cases.bin of the folder named: every row of document 01's refusal table
+at its edges, and damaged copies of good expressions; and cases with a wrong outcome in wrong_cases.bin. It rests on document 01 alone: the model
+below is written from its text, apart from the library and from the original Rust, and the format is in the README beside the recorded files. The
+reader's cases are in reading_cases.py.
 """
 
 import random
 import sys
 from pathlib import Path
 
-READ, EVALUATE, COSTING, EXAMINE, RAW, CHEAPER = range(6)
+EVALUATE, COSTING, EXAMINE, RAW, CHEAPER = range(1, 6)
 MARKS = {b"AN": "and", b"OR": "or", b"XO": "xor", b"NO": "not"}
 LARGEST = 2**64 - 1
 
@@ -94,19 +95,8 @@ def coefficients(n, table):
     )
 
 
-CODES = {"and": 10, "or": 11, "xor": 12, "not": 13}
-
-
 def answer(call, n, extra, entries, word, data, second):
     """What document 01 says: three results, or a refusal."""
-    if call == READ:
-        if n > 6:
-            raise Refusal(1, 0)
-        if extra >= len(data):
-            return (255, 0, 0)
-        kind, payload, after = record(n, data, extra)
-        code = payload if kind == "constant" else 2 + payload if kind == "flag" else CODES[kind]
-        return (code, after, 0)
     if call == EVALUATE:
         if n > 6:
             raise Refusal(1, 0)
@@ -208,7 +198,6 @@ def rows():
     one = b"VA\0"
     for n in (0, 1, 5, 6, 7, 8, 16, 17, 64, 2**32, LARGEST):
         data = one if n else b"CO\1"
-        yield case(READ, n, data=data)
         yield case(EVALUATE, n, data=data)
         yield case(COSTING, n, data=data)
         yield case(RAW, n, entries=1, word=1)
@@ -224,14 +213,11 @@ def rows():
         for index in (0, n - 1, n, n + 1, 255):
             if index >= 0:
                 for data in (b"VA" + bytes([index]), b"CO" + bytes([index])):
-                    yield case(READ, n, data=data)
                     yield case(COSTING, n, data=data)
     for data in (b"", b"V", b"VA", b"C", b"CO", b"A", b"AN", b"N", b"NO", b"OR", b"XO", b"XX", b"VB\0", b"va\0", b"CO\1V", b"CO\1VA"):
-        for call in (READ, EVALUATE, COSTING):
+        for call in (EVALUATE, COSTING):
             yield case(call, 3, data=data)
         yield case(EXAMINE, 1, entries=2, word=2, data=data)
-    for place in (0, 1, 2, 3, 4, 5, 6, 7, 8, 9, 1000, LARGEST):
-        yield case(READ, 2, extra=place, data=b"VA\1CO\0XO")
     long = one + b"NO" * 384
     for data in (long, long + b"NO", long + b"V", long + b"XX", one * 385, one * 386, one * 193 + b"XO" * 192, one * 193 + b"OR" * 192, one * 194 + b"AN" * 192, one + one + b"AN", b"CO\0", one + b"V", one + one, b"AN", b"VA\1"):
         yield from whole(1, data, 2)
@@ -260,12 +246,10 @@ def random_cases():
 
 def wrong():
     """A right case, and then cases in which one number of the outcome differs: of each call the first result, of a refusal its number and its
-    place, and every result of the calls that have more than one."""
+    place, and every result of costing, which has more than one."""
     rule = b"VA\0VA\1OR"
     yield case(COSTING, 2, data=rule)
     for right in (
-        case(READ, 2, data=rule),
-        case(READ, 2, extra=8, data=rule),
         case(EVALUATE, 2, extra=1, data=rule),
         case(EXAMINE, 2, entries=4, word=14, data=rule),
         case(RAW, 2, entries=1, word=14),
@@ -277,7 +261,6 @@ def wrong():
     yield changed(refused, 32)
     for at in (32, 34, 36):
         yield changed(case(COSTING, 2, data=rule), at)
-    yield changed(case(READ, 2, data=rule), 34)
 
 
 def changed(right, at):

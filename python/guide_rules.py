@@ -4,6 +4,7 @@
     rule = guide_rules.compile(3, "00010111")
     guide_rules.show(rule.expression)                        # 'VA0 VA1 VA2 XO AN VA1 VA2 AN XO'
     guide_rules.examine(3, "00010111", rule.expression)      # 9, its cost
+    guide_rules.read(3, rule.expression, 11)                 # AN, the record at byte 11; its operands start at 0 and 3
     guide_rules.evaluate(3, rule.expression, 0b101)          # 1: flags 0 and 2 are set
     stars = guide_rules.star_words(3, [0b000, 0b101, 0b110, 0b011])
     bin(guide_rules.evaluate_stars(3, stars, rule.expression))          # '0b1110': stars 1, 2 and 3
@@ -58,7 +59,7 @@ _ROWS = {
     5: ("the output is shorter than the result", "the length needed"),
     6: ("one byte left, or an unknown mark", "the record's first byte"),
     7: ("the payload is absent, a constant above 1, or a flag index that is not below flags", "the record's first byte"),
-    8: ("too few operands", "the record's first byte"),
+    8: ("too few operands, or (read) a place that is not the first byte of a record", "the record's first byte, or the place asked for"),
     9: ("a 386th record begins", "its first byte"),
     10: ("no bytes, or more than one operand left at the end", "the byte after the expression"),
     11: ("the setting is 2^flags or more", None),
@@ -102,11 +103,15 @@ class Compilation(NamedTuple):
 
 
 class Record(NamedTuple):
-    """A record: its kind, which is its mark; its payload, None where there is none; and the place after it."""
+    """A record: its kind, which is its mark; its payload, None where there is none; the place after it; and the first byte of each operand.
+
+    AN, OR and XO have two starts, NO has one, CO and VA have none.
+    """
 
     kind: str
     payload: Optional[int]
     next: int
+    starts: Tuple[int, ...]
 
 
 class Costs(NamedTuple):
@@ -128,6 +133,7 @@ class Rule(NamedTuple):
 
 
 _MARKS = ("", "CO", "VA", "AN", "OR", "XO", "NO")
+_OPERANDS = {"CO": 0, "VA": 0, "AN": 2, "OR": 2, "XO": 2, "NO": 1}
 _WITH_PAYLOAD = ("CO", "VA")
 _ANSWERS = 6
 
@@ -268,20 +274,29 @@ def compile(flags: int, table: Table) -> Compilation:
 
 
 def _read(flags: int, data: bytes, place: int) -> Optional[Record]:
-    kind, payload, following = _call("rule_read", flags, data, len(data), place)[:3]
+    kind, payload, following, *starts = _call("rule_read", flags, data, len(data), place)[:5]
     if kind == 0:
         return None
     mark = _MARKS[kind]
-    return Record(mark, payload if mark in _WITH_PAYLOAD else None, following)
+    return Record(mark, payload if mark in _WITH_PAYLOAD else None, following, tuple(starts[:_OPERANDS[mark]]))
 
 
 def read(flags: int, expression: Expression, place: int) -> Optional[Record]:
-    """The record that starts at a place, or None at the end."""
+    """The record that starts at a place, with the starts of its operands, or None at the end, which is any place from the length on.
+
+    The bytes from one start up to the next, and from the last up to the place, are an operand whole: of AN, OR and XO with starts a and b
+    the operands are expression[a:b] and expression[b:place], of NO with start a it is expression[a:place].
+    The records are read from byte 0 up to the one at the place, so the time grows with the place. A record that is refused on the way is
+    this call's Refusal, at the end too; a place inside a record is refused by 8.
+    """
     return _read(_fitting(flags, "flags"), _of(expression), _fitting(place, "place"))
 
 
 def records(flags: int, expression: Expression) -> List[Record]:
-    """All records in turn, by read; whether operands are missing or left over is not asked."""
+    """All records in turn, by read; that no bytes are there, or that operands are left over, is no Refusal.
+
+    As read goes from byte 0 each time, the time grows with the square of the number of records; a 386th is refused.
+    """
     flags, data = _fitting(flags, "flags"), _of(expression)
     found: List[Record] = []
     record = _read(flags, data, 0)
@@ -395,7 +410,10 @@ def package(rules: Iterable[Union[Rule, Tuple[int, Union[int, Table], Expression
 
 
 def show(expression: Expression) -> str:
-    """The records in document 01's notation, as 'VA0 VA1 OR'; a ValueError where the bytes are no records. A payload may be any byte."""
+    """The records in document 01's notation, as 'VA0 VA1 OR'; a ValueError where the bytes are no records.
+
+    A payload may be any byte, and neither operands nor records are counted, so that what the library refuses can be shown.
+    """
     data, texts, place = _of(expression), [], 0
     while place < len(data):
         mark = data[place:place + 2].decode("latin-1")

@@ -1,7 +1,7 @@
-"""Document 01's examples through the Python module.
+"""The documents' examples through the Python module.
 
-The expected values are the rows of document 01, "Marked examples of rules" and "Unmarked", or are worked by hand from its
-definitions where a comment says so; none comes from this library.
+The expected values are the rows of document 01, "Marked examples of rules" and "Unmarked", or are worked by hand from the
+documents' definitions where a comment says so; none comes from this library.
 """
 
 import pickle
@@ -96,14 +96,90 @@ class Rules(unittest.TestCase):
     def test_reading(self):
         # worked by hand: VA0 is three bytes, NO two
         expression = parse("VA0 NO")
-        self.assertEqual(guide_rules.read(1, expression, 0), guide_rules.Record("VA", 0, 3))
-        self.assertEqual(guide_rules.read(1, expression, 3), guide_rules.Record("NO", None, 5))
+        self.assertEqual(guide_rules.read(1, expression, 0), guide_rules.Record("VA", 0, 3, ()))
+        self.assertEqual(guide_rules.read(1, expression, 3), guide_rules.Record(kind="NO", payload=None, next=5, starts=(0,)))
         self.assertIsNone(guide_rules.read(1, expression, 5))
         self.assertIsNone(guide_rules.read(1, expression, TOO_LARGE - 1))
         self.assertEqual(guide_rules.records(1, b""), [])
-        self.refused(6, 4, guide_rules.read, 1, expression, 4)
+        self.assertIsNone(guide_rules.read(1, b"", 0))
         self.refused(7, 0, guide_rules.records, 0, expression)
-        self.assertEqual(guide_rules.records(1, parse("AN")), [("AN", None, 2)])
+        # operands left over, below the ones that are taken and at the end, are no refusal
+        self.assertEqual(
+            guide_rules.records(3, parse("CO1 VA1 VA2 AN VA0")),
+            [("CO", 1, 3, ()), ("VA", 1, 6, ()), ("VA", 2, 9, ()), ("AN", None, 11, (3, 6)), ("VA", 0, 14, ())],
+        )
+
+    # request 5 of document 02: "The bytes between the two starts are the first operand whole." The row 00010111 has records at
+    # 0, 3, 6, 9, 11, 13, 16, 19 and 21.
+    def test_operands(self):
+        expression = parse("VA0 VA1 VA2 XO AN VA1 VA2 AN XO")
+        for place, kind, starts, operands in (
+            (9, "XO", (3, 6), ["VA1", "VA2"]),
+            (11, "AN", (0, 3), ["VA0", "VA1 VA2 XO"]),
+            (19, "AN", (13, 16), ["VA1", "VA2"]),
+            (21, "XO", (0, 13), ["VA0 VA1 VA2 XO AN", "VA1 VA2 AN"]),
+        ):
+            record = guide_rules.read(3, expression, place)
+            self.assertEqual(record, (kind, None, place + 2, starts))
+            self.assertEqual([show(expression[a:b]) for a, b in zip(starts, starts[1:] + (place,))], operands)
+        leaves = [record for record in guide_rules.records(3, expression) if not record.starts]
+        self.assertEqual([record.payload for record in leaves], [0, 1, 2, 1, 2])
+        # NO of a whole expression, behind an operand that it does not take
+        self.assertEqual(guide_rules.read(3, parse("VA2 VA0 VA1 OR NO AN"), 11), ("NO", None, 13, (3,)))
+        self.assertEqual(guide_rules.read(3, parse("VA2 VA0 VA1 OR NO AN"), 13), ("AN", None, 15, (0, 3)))
+        # 193 flags and 192 XO: the first XO, at 579, takes the last two flags, the last one, at 961, the first flag and all the rest
+        deep = parse("VA0 " * 193 + "XO " * 192)
+        self.assertEqual(guide_rules.read(1, deep, 579), ("XO", None, 581, (573, 576)))
+        self.assertEqual(guide_rules.read(1, deep, 961), ("XO", None, 963, (0, 3)))
+        self.assertIsNone(guide_rules.read(1, deep, 963))
+
+    # request 5: "the refusal of a record that begins before the place comes first. Number 8 also meets, and gives, a place below
+    # the byte length that is not the first byte of a record; at or past the length is the end, unless an earlier record is refused."
+    def test_refused_readings(self):
+        # inside a record, also where the bytes inside are those of another: AN OR holds NO
+        expression = parse("VA0 VA1 VA2 AN OR")
+        for place in (1, 2, 4, 5, 7, 8, 10, 12):
+            self.refused(8, place, guide_rules.read, 3, expression, place)
+        # from the record that is refused on its refusal, before it records; and inside those the place
+        for number, at, damaged in (
+            (6, 3, parse("VA0") + b"V"),
+            (6, 3, parse("VA0") + b"VB\0" + parse("VA0 AN")),
+            (6, 3, parse("VA0") + b"\0" + parse("NO")),
+            (7, 3, parse("VA0") + b"CO"),
+            (7, 3, parse("VA0 VA3 AN")),
+            (7, 3, parse("VA0 CO2 AN NO")),
+            (8, 3, parse("VA0 AN")),
+            (8, 3, parse("VA0 OR VA1 VA2 XO")),
+            (8, 5, parse("VA0 NO XO")),
+        ):
+            with self.subTest(number=number, damaged=damaged):
+                self.assertEqual(guide_rules.read(3, damaged, 0), ("VA", 0, 3, ()))
+                self.refused(8, 1, guide_rules.read, 3, damaged, 1)
+                for place in list(range(at, len(damaged) + 3)) + [TOO_LARGE - 1]:
+                    self.refused(number, at, guide_rules.read, 3, damaged, place)
+                self.refused(number, at, guide_rules.records, 3, damaged)
+        for mark in ("AN", "OR", "XO", "NO"):
+            for place in (0, 1, 2, 3):
+                self.refused(8, 0, guide_rules.read, 3, parse(mark), place)
+        # the 385th record begins at 769, a 386th at 771, whatever it is
+        most = parse("VA0" + " NO" * 384)
+        self.assertEqual(guide_rules.read(1, most, 769), ("NO", None, 771, (0,)))
+        self.assertIsNone(guide_rules.read(1, most, 771))
+        for more in (parse("NO"), b"V", b"XX", b"CO", parse("AN")):
+            self.assertEqual(guide_rules.read(1, most + more, 769), ("NO", None, 771, (0,)))
+            self.refused(8, 770, guide_rules.read, 1, most + more, 770)
+            for place in (771, 772, 773, TOO_LARGE - 1):
+                self.refused(9, 771, guide_rules.read, 1, most + more, place)
+        # more than six flags come first
+        for place in (0, 1, 2, 3):
+            self.refused(1, 0, guide_rules.read, 7, b"XX", place)
+        with self.assertRaises(Refusal) as caught:
+            guide_rules.read(3, expression, 10)
+        self.assertEqual(
+            str(caught.exception),
+            "refused by 8: too few operands, or (read) a place that is not the first byte of a record; "
+            "place 10, the record's first byte, or the place asked for",
+        )
 
     def test_stars(self):
         # worked by hand: flag 0 is set for the stars 2 and 3, flag 1 for the stars 1, 3 and 63

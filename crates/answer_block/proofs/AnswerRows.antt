@@ -40,17 +40,21 @@ pub answer-rows :
 unfolding computing entriesOf bytesOf
 answer-rows = tt
 
--- "the kind, and nothing more at the end; the payload, 0 where there is none; the next place", and `enum guide_rules_kind`
+-- "the kind, and nothing more at the end; the payload, 0 where there is none; the next place; the start of the first operand; that of the second;
+-- each of these two is 0 where there is none", and `enum guide_rules_kind`. In the longest row AN at 6 takes the operands at 0 and 3, OR at 14 those
+-- at 8 and 11, XO at 19 the one that OR leaves and that at 16, and NO at 21 the one that XO leaves. A flag past the last is refused at its own place,
+-- also from a place behind it, and a place inside a record by itself.
 pub reading-rows :
     T (
-    same (numbers reading (read 4 (bytesOf "CO1") 0)) (1 ∷ 1 ∷ 3 ∷ [])
-    && same (numbers reading (read 4 (bytesOf "VA3") 0)) (2 ∷ 3 ∷ 3 ∷ [])
-    && same (numbers reading (read 4 (bytesOf "AN OR XO NO") 0)) (3 ∷ 0 ∷ 2 ∷ [])
-    && same (numbers reading (read 4 (bytesOf "AN OR XO NO") 2)) (4 ∷ 0 ∷ 4 ∷ [])
-    && same (numbers reading (read 4 (bytesOf "AN OR XO NO") 4)) (5 ∷ 0 ∷ 6 ∷ [])
-    && same (numbers reading (read 4 (bytesOf "AN OR XO NO") 6)) (6 ∷ 0 ∷ 8 ∷ [])
-    && same (numbers reading (read 4 (bytesOf "AN OR XO NO") 8)) (0 ∷ [])
-    && same (numbers reading (read 4 (bytesOf "VA4") 0)) (0 ∷ [])
+    same (numbers reading (read 4 (bytesOf "CO1") 0)) (1 ∷ 1 ∷ 3 ∷ 0 ∷ 0 ∷ [])
+    && same (numbers reading (read 4 (bytesOf "VA0 VA3 AN") 3)) (2 ∷ 3 ∷ 6 ∷ 0 ∷ 0 ∷ [])
+    && same (numbers reading (read 4 (bytesOf "VA0 VA1 AN") 6)) (3 ∷ 0 ∷ 8 ∷ 0 ∷ 3 ∷ [])
+    && same (numbers reading (read 4 (bytesOf "VA0 VA1 AN CO1 VA2 OR VA3 XO NO") 14)) (4 ∷ 0 ∷ 16 ∷ 8 ∷ 11 ∷ [])
+    && same (numbers reading (read 4 (bytesOf "VA0 VA1 AN CO1 VA2 OR VA3 XO NO") 19)) (5 ∷ 0 ∷ 21 ∷ 8 ∷ 16 ∷ [])
+    && same (numbers reading (read 4 (bytesOf "VA0 VA1 AN CO1 VA2 OR VA3 XO NO") 21)) (6 ∷ 0 ∷ 23 ∷ 8 ∷ 0 ∷ [])
+    && same (numbers reading (read 4 (bytesOf "VA0 VA1 AN") 8)) (0 ∷ [])
+    && same (numbers reading (read 4 (bytesOf "VA0 VA4 AN") 6)) (3 ∷ [])
+    && same (numbers reading (read 4 (bytesOf "VA0 VA1 AN") 7)) (7 ∷ [])
     )
 unfolding computing bytesOf
 reading-rows = tt

@@ -3,10 +3,10 @@
 -- rests on the definitions of Block and Numbers, and on every refusal's number being above 0 (laws, Numbered).
 --   answer-tells                 == number and block tell the outcome, if the block tells the result
 --   alone-tells, costs-tell      == the block tells a number; cost, size and depth
---   reading-tells                == and a record's kind with payload and next place, or the end
+--   reading-tells                == and a record's kind with payload, next place and where its operands start, or the end
 --   package-tells                == and a rule of a package with its places, or the end
 use mathlib.Core.Bool.{Bool, true, false}
-use mathlib.Core.List.{List, [], _∷_}
+use mathlib.Core.List.{List, []}
 use mathlib.Core.Option.{Option, none, some}
 use mathlib.Core.Path.{_≡_, refl, sym, ap, ap₂, _∙_}
 use Prim.Native.Nat.{ℕ, _≤_, _<_}
@@ -16,8 +16,9 @@ use lib.ListN.{length, getD}
 use Rattle.bits.proofs.Injective.{told-apart}
 use Rattle.rules.specs.Calls.{Costs}
 use Rattle.rules.specs.Console.{number}
+use Rattle.rules.specs.Machine.{Node}
 use Rattle.rules.specs.Outcome.{Outcome, gives, refuses}
-use Rattle.rules.specs.Record.{Kind, Constant, Flag, And, Or, Xor, Not, Found}
+use Rattle.rules.specs.Record.{Kind, Constant, Flag, And, Or, Xor, Not}
 use Rattle.rule_package.specs.Calls.{RuleAt}
 use Rattle.laws.proofs.calls.Numbered.{Numbered}
 use Rattle.answer_block.specs.Block.{stored, numbers}
@@ -61,18 +62,11 @@ kind-again Or = refl
 kind-again Xor = refl
 kind-again Not = refl
 
-abbrev readingAgain : List ℕ → Option Found
-readingAgain [] = none
-readingAgain (k ∷ []) = none
-readingAgain (k ∷ p ∷ []) = none
-readingAgain (k ∷ p ∷ n ∷ l) = some (record { kind = kindAgain k p; next = n })
+abbrev nodeAgain : List ℕ → Node
+nodeAgain l = record { kind = kindAgain (getD l 0 0) (getD l 1 0); first = getD l 3 0; second = getD l 4 0; next = getD l 2 0 }
 
-reading-again : (r : Option Found) → readingAgain (reading r) ≡ r
-reading-again none = refl
-reading-again (some r) = ap (λ (k : Kind). some (record { kind = k; next = r .next })) (kind-again (r .kind))
-
-reading-injective : (r q : Option Found) → reading r ≡ reading q → r ≡ q
-reading-injective = told-apart reading readingAgain reading-again
+node-again : (r : Node) → nodeAgain (reading (some r)) ≡ r
+node-again r = ap (λ (k : Kind). record { kind = k; first = r .first; second = r .second; next = r .next }) (kind-again (r .kind))
 
 pub costs-tell : (block : List ℕ) → 3 ≤ length block → (c d : Costs) → stored block (costs c) ≡ stored block (costs d) → c ≡ d
 costs-tell block h c d e = costs-injective c d (stored-same block (costs c) (costs d) refl h e)
@@ -86,16 +80,17 @@ kind-above Xor = omega arith
 kind-above Not = omega arith
 
 -- the end is told by its kind, 0
-not-end : (block : List ℕ) → 3 ≤ length block → (r : Found) → stored block (reading none) ≡ stored block (reading (some r)) → 0 ≡ kindNumber (r .kind)
+not-end : (block : List ℕ) → 5 ≤ length block → (r : Node) → stored block (reading none) ≡ stored block (reading (some r)) → 0 ≡ kindNumber (r .kind)
 not-end block h r e =
     sym (head-stored block 0 [] (omega arith)) ∙ ap (λ (l : List ℕ). getD l 0 0) e ∙ head-stored block (kindNumber (r .kind)) _ (omega arith)
 
-pub reading-tells : (block : List ℕ) → 3 ≤ length block → (r q : Option Found) → stored block (reading r) ≡ stored block (reading q) → r ≡ q
+pub reading-tells : (block : List ℕ) → 5 ≤ length block → (r q : Option Node) → stored block (reading r) ≡ stored block (reading q) → r ≡ q
 reading-tells block h none none e = refl
 reading-tells block h none (some q) e = absurd (omega (arith, not-end block h q e, kind-above (q .kind)))
 reading-tells block h (some r) none e = absurd (omega (arith, not-end block h r (sym e), kind-above (r .kind)))
 reading-tells block h (some r) (some q) e =
-    reading-injective (some r) (some q) (stored-same block (reading (some r)) (reading (some q)) refl h e)
+    ap some (told-apart (λ x. reading (some x)) nodeAgain node-again r q
+    (stored-same block (reading (some r)) (reading (some q)) refl h e))
 
 -- ---- a rule of a package
 

@@ -3,7 +3,7 @@
 --   entries l          == of the transform, the way back and the writer of a package: how many entries were written
 --   listing l          == of the listing: the constant, 0 or 1, and the count of monomials
 --   compilation c      == of the compiler: the counts of bytes and records, the cost and the raw cost
---   reading r          == of the reader: the kind's number, the payload and the next place, or 0 alone at the end
+--   reading r          == of the reader: the kind's number, the payload, the next place and where the two operands start, or 0 alone at the end
 --   packageReading r   == of the reader of a package: 1, flag count, table word, start and length of the expression and the next place, or 0 alone
 --   costs c            == of costing: cost, size and depth
 --   cheaper n s t      == what `rule_cheaper` returns: 0 where n or either is refused, 1 for the first, 2 for the second
@@ -13,7 +13,8 @@ use Prim.Native.Nat.{ℕ}
 use lib.ListN.{length}
 use Rattle.bits.specs.Bit.{digit}
 use Rattle.rules.specs.Calls.{Listing, Compilation, Costs, parse, cheaperOf}
-use Rattle.rules.specs.Record.{Kind, Constant, Flag, And, Or, Xor, Not, Found}
+use Rattle.rules.specs.Machine.{Node}
+use Rattle.rules.specs.Record.{Kind, Constant, Flag, And, Or, Xor, Not}
 use Rattle.rule_package.specs.Calls.{RuleAt}
 
 abbrev pub alone : ℕ → List ℕ
@@ -49,10 +50,11 @@ payload Or = 0
 payload Xor = 0
 payload Not = 0
 
--- "the kind, and nothing more at the end; the payload, 0 where there is none; the next place"
-abbrev pub reading : Option Found → List ℕ
+-- "the kind, and nothing more at the end; the payload, 0 where there is none; the next place; the start of the first operand; that of the second;
+-- each of these two is 0 where there is none"
+abbrev pub reading : Option Node → List ℕ
 reading none = 0 ∷ []
-reading (some r) = kindNumber (r .kind) ∷ payload (r .kind) ∷ r .next ∷ []
+reading (some r) = kindNumber (r .kind) ∷ payload (r .kind) ∷ r .next ∷ r .first ∷ r .second ∷ []
 
 -- "the kind, and nothing more at the end; the flag count; the table word; the start of the expression; its length; the next place", and
 -- `enum guide_rules_package_kind`

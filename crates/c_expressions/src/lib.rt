@@ -4,8 +4,8 @@ use cheaper::Which;
 use evaluation::Evaluation;
 use examiner::Examination;
 use expr::Kind;
-use expr::Reading;
 use expr_cost::Costing;
+use reader::Reading;
 use stars::StarEvaluation;
 ghost use mathlib.Core.Path.{_≡_};
 ghost use Rattle.expr.specs.Answers.{kindOf};
@@ -18,11 +18,18 @@ pub fn read(flags: usize, bytes: &[u8], place: usize, answer: &mut [u64]) -> u64
     ensures answer { λ r. ⌜ Answers c.reading (Calls.read flags (now (bytes .entry)) place)
         (now (answer .entry)) r (now (answer .exit)) ⌝ }
 {
-    let read = expr::read(flags, bytes, place);
+    let read = reader::read(flags, bytes, place);
     match read {
         Reading::Found(node) => {
             let kind = node.kind;
-            answer_block::three(answer, kind_number(kind), payload(kind), node.next as u64)
+            answer_block::five(
+                answer,
+                kind_number(kind),
+                payload(kind),
+                node.next as u64,
+                node.first as u64,
+                node.second as u64,
+            )
         }
         Reading::End => answer_block::one(answer, 0),
         Reading::Refused(refusal) => answer_block::refusal(answer, refusal),

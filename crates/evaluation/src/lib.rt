@@ -1,13 +1,10 @@
 // Evaluation of an expression at one setting. Its walk keeps the truth values on the stack as the bits of a number (`packed_stack`); an expression
-// that fills that number is walked as 64 settings side by side, of which the first is the one asked for. It rests on `expr` and `lanes`.
+// that fills that number is walked as 64 settings side by side, of which the first is the one asked for. It rests on `reader` and `lanes`.
 use crate::packed_stack::after;
-use expr::Reading;
 use lanes::Walked;
+use reader::Reading;
 use rules::BAD_END;
 use rules::BAD_SETTING;
-use rules::FEW_OPERANDS;
-use rules::MANY_RECORDS;
-use rules::RECORD_LIMIT;
 use rules::RULE_FLAGS;
 use rules::Refusal;
 use rules::TOO_MANY_FLAGS;
@@ -20,7 +17,7 @@ ghost use Rattle.bits.specs.Bit.{bit, digit};
 ghost use Rattle.rules.specs.Calls;
 ghost use Rattle.rules.specs.Limits.{ruleFlags};
 ghost use Rattle.rules.specs.Outcome.{gives};
-ghost use Rattle.expr.specs.Inner.{ended};
+ghost use Rattle.reader.specs.Inner.{ended};
 ghost use Rattle.evaluation.specs.Answers.{evaluationOf};
 ghost use Rattle.evaluation.specs.inner.OneSetting.{evaluated, settingWords};
 
@@ -53,38 +50,35 @@ pub fn evaluate(flags: usize, bytes: &[u8], setting: usize) -> Evaluation
     walk(flags, bytes, setting)
 }
 
-// The records in turn over a stack of truth values that is one number.
+// The records in turn over a stack of truth values that is one number; beside it stands where each operand begins.
 fn walk(flags: usize, bytes: &[u8], setting: usize) -> Evaluation
     requires { ⌜ (flags ≤ ruleFlags) × (setting < 2 ^ flags) ⌝ }
     ensures { λ r. ⌜ evaluationOf r ≡ evaluated flags (now (bytes .entry)) setting ⌝ }
 {
     let mut stack: usize = 1;
+    let mut starts = [0u16; 64];
+    let mut depth = 0;
     let mut place = 0;
     let mut count = 0;
-    while count < RECORD_LIMIT {
+    loop {
         if FULL <= stack {
             return walk_lane(flags, bytes, setting);
         }
-        let answer = expr::step(flags, bytes, place);
+        let answer = reader::step(flags, bytes, &starts, depth, place, count);
         let Reading::Found(node) = answer else {
             let Reading::Refused(refusal) = answer else {
-                return finished(stack % 2 == 1, stack / 2, bytes.len());
+                return finished(stack % 2 == 1, depth, bytes.len());
             };
             return Evaluation::Refused(refusal);
         };
         let kind = node.kind;
-        let next = after(kind, setting, stack);
-        if next == 0 {
-            return refused(FEW_OPERANDS, place);
-        }
-        stack = next;
+        stack = after(kind, setting, stack);
+        let base = depth - expr::arity(kind);
+        reader::keep(kind, &mut starts, base, place);
+        depth = base + 1;
         place = node.next;
         count = count + 1;
     }
-    if place < bytes.len() {
-        return refused(MANY_RECORDS, place);
-    }
-    finished(stack % 2 == 1, stack / 2, bytes.len())
 }
 
 // The answer at the end of the records, where one operand must be left.

@@ -1,20 +1,21 @@
 // The truth values on evaluation's stack as the bits of one number, the topmost lowest, under a leading one: what a record makes of that number.
 use expr::Kind;
 ghost use mathlib.Core.List.{List};
+ghost use mathlib.Core.Option.{some};
 ghost use mathlib.Core.Path.{_≡_};
-ghost use Prim.Native.Nat.{_+_, _-_, _*_, _/_, _%_, _^_, _≤_, _<_};
+ghost use Prim.Native.Nat.{ℕ, _+_, _-_, _*_, _/_, _%_, _^_, _<_};
 ghost use Rattle.bits.specs.Bit.{bit, digit};
-ghost use Rattle.rules.specs.Machine.{push};
+ghost use Rattle.rules.specs.Machine.{Operand, Left, push};
 ghost use Rattle.rules.specs.Record.{FlagBelow};
-ghost use Rattle.rules.specs.Tree.{Tree};
 ghost use Rattle.expr.specs.Answers.{kindOf};
-ghost use Rattle.evaluation.specs.inner.Packed.{packed, repacked};
+ghost use Rattle.evaluation.specs.inner.Packed.{packed};
 
-// The stack after a record, or 0 where an operand is lacking.
+// The stack after a record whose operands are there.
 pub fn after(kind: Kind, setting: usize, stack: usize) -> usize
     requires index { ⌜ FlagBelow 64 (kindOf kind) ⌝ }
     requires room { ⌜ stack < 2 ^ 63 ⌝ }
-    ensures { λ r. ⌜ ((ts : List Tree) → packed setting ts ≡ stack → r ≡ repacked setting (push (kindOf kind) ts)) ⌝ }
+    ensures { λ r. ⌜ ((os : List Operand) (p : ℕ) (l : Left) → packed setting os ≡ stack → push (kindOf kind) p os ≡ some l
+        → r ≡ packed setting (l .stack)) ⌝ }
 {
     match kind {
         Kind::Constant(b) => laid(stack, b),
@@ -34,24 +35,16 @@ fn laid(stack: usize, value: bool) -> usize
     stack * 2 + (value as usize)
 }
 
-// The two topmost values joined by an operator, whose value at the operands x and y is bit 2x + y of `values`; 0 where there are not two.
+// The two topmost values joined by an operator, whose value at the operands x and y is bit 2x + y of `values`.
 fn joined(stack: usize, values: usize) -> usize
-    ensures few { λ r. ⌜ (stack < 4 → r ≡ 0) ⌝ }
-    ensures joins { λ r. ⌜ (4 ≤ stack → r ≡ 2 * (stack / 4) + digit (bit values (stack % 4))) ⌝ }
+    ensures { λ r. ⌜ r ≡ 2 * (stack / 4) + digit (bit values (stack % 4)) ⌝ }
 {
-    if stack < 4 {
-        return 0;
-    }
     stack / 4 * 2 + (values >> (stack % 4)) % 2
 }
 
-// The topmost value turned; 0 where there is none.
+// The topmost value turned.
 fn turned(stack: usize) -> usize
-    ensures few { λ r. ⌜ (stack < 2 → r ≡ 0) ⌝ }
-    ensures turns { λ r. ⌜ (2 ≤ stack → r ≡ 2 * (stack / 2) + (1 - stack % 2)) ⌝ }
+    ensures { λ r. ⌜ r ≡ 2 * (stack / 2) + (1 - stack % 2) ⌝ }
 {
-    if stack < 2 {
-        return 0;
-    }
     stack / 2 * 2 + (1 - stack % 2)
 }

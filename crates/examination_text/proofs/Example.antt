@@ -20,7 +20,7 @@ use Rattle.rules.specs.Ascii.{ascii}
 use Rattle.rules.specs.Calls.{withTable, tableForm, differences, judged, examine}
 use Rattle.rules.specs.Coefficient.{coefficient}
 use Rattle.rules.specs.Form.{termCost, rawCost}
-use Rattle.rules.specs.Machine.{binary, unary, push, finish, operands, run, made}
+use Rattle.rules.specs.Machine.{leaf, binary, unary, push, operands, recordTurn, turn, finish, run, made}
 use Rattle.rules.specs.Monomial.{form}
 use Rattle.rules.specs.Record.{mark, marked, plain, loaded, recordAt}
 use Rattle.rules.specs.Text.{decimalTurn, decimal, firstOf, flagsOf}
@@ -35,7 +35,7 @@ pub record Case : Type 0 where
 
 pub writes : List ℕ → List ℕ → Bool
 unfolding same ascii all any keep from sum bit within places below turns fixed ones onesIn coefficient form termCost rawCost
-    withTable tableForm differences judged examine binary unary push finish operands run made mark marked plain loaded recordAt
+    withTable tableForm differences judged examine leaf binary unary push operands recordTurn turn finish run made mark marked plain loaded recordAt
     decimalTurn decimal firstOf flagsOf cost value attach split recordTexts isRecord recordBytes expression recordOf
     flagNames difference beyondLimit aboveRaw reason verdictText ofRule ofTable ofLines verdictPage
 writes s out = same (verdictPage s) out

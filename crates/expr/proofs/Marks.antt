@@ -1,14 +1,13 @@
--- Laws of the reader's answer by the number of a record's two letters, one equation for each way through the code. They rest on `recordAt` of
--- rules' Record, on `stepAt` of the definitions and on `read` of rules' Calls.
+-- Laws of a record by the number of its two letters, one equation for each way through the code. They rest on `recordAt` of rules' Record.
 --   byMark n s p m                   == the record at place p by the number m of its two letters
 --   mark-unknown                     == no other number is a mark
---   step-past, step-short            == no byte left; one byte left
---   step-mark                        == two letters or more: the answer by their number
---   read-over, read-within           == too many flags; else the step
+--   over-short, over-mark            == one byte left; two letters or more: the record over the operands by their number
+--   over n s p d r                   == a record that rows 6 and 7 pass, refused where d operands are too few
+--   over-constant, over-flag         == a record with no operand is never refused so
+--   over-two                         == over two operands no record is
 use mathlib.Core.Bool.{Bool, true, false}
 use mathlib.Core.List.{List}
-use mathlib.Core.Option.{none, some}
-use mathlib.Core.Path.{_≡_, ap, _∙_}
+use mathlib.Core.Path.{_≡_, refl, ap, _∙_}
 use Prim.Native.Nat.{ℕ, _+_, _*_, _≤_, _<_}
 use native.Mathlib.Nat.{add-zero}
 use native.Mathlib.Omega.{arith}
@@ -17,11 +16,10 @@ use lib.ListN.{length, getD, drop}
 use lib.Seq.{getD-drop}
 use borrow.Author.Tests.{lt-ltb, le-ltb, ne-eqb}
 use Rattle.rules.specs.Ascii.{ascii}
-use Rattle.rules.specs.Calls.{read}
-use Rattle.rules.specs.Limits.{ruleFlags, tooManyFlags, badMark}
+use Rattle.rules.specs.Limits.{badMark, badPayload, fewOperands}
 use Rattle.rules.specs.Outcome.{Outcome, gives, refuses, refuse, _then_}
-use Rattle.rules.specs.Record.{Constant, Flag, And, Or, Xor, Not, Found, mark, marked, plain, loaded, recordAt}
-use Rattle.expr.specs.Inner.{stepAt}
+use Rattle.rules.specs.Record.{Kind, Constant, Flag, And, Or, Xor, Not, Found, mark, marked, plain, loaded, recordAt, operandCount}
+use Rattle.expr.specs.Inner.{recordOver, constantAt, flagAt}
 
 module _ (n : ℕ) (s : List ℕ) (p : ℕ) where
   unfoldable pub byMark : ℕ → Outcome Found
@@ -57,28 +55,45 @@ module _ (n : ℕ) (s : List ℕ) (p : ℕ) where
   mark-unknown m h₁ h₂ h₃ h₄ h₅ h₆ =
       rw (ne-eqb m 0x434f h₁, byMark, ne-eqb m 0x5641 h₂, ne-eqb m 0x414e h₃, ne-eqb m 0x4f52 h₄, ne-eqb m 0x584f h₅, ne-eqb m 0x4e4f h₆)
 
-  step-inside : p < length s → stepAt n s p ≡ recordAt n s p then (λ r. gives (some r))
-  unfolding stepAt
-  step-inside h = rw (lt-ltb p (length s) h, stepAt)
+  module _ (d : ℕ) where
+    -- what rows 6 and 7 pass, refused where d operands are too few
+    unfoldable pub over : Found → Outcome Found
+    over r = refuse (ltb d (operandCount (r .kind))) fewOperands p (gives r)
 
-  pub step-mark : (m : ℕ) → p + 2 ≤ length s → getD s p 0 * 256 + getD s (p + 1) 0 ≡ m → stepAt n s p ≡ byMark m then (λ r. gives (some r))
-  step-mark m h e =
-      step-inside (omega arith) ∙ ap (λ (o : Outcome Found). o then (λ r. gives (some r))) (record-mark h ∙ ap byMark e)
+    pub over-short : length s < p + 2 → recordOver n s d p ≡ refuses badMark p
+    unfolding recordOver recordAt
+    over-short k = rw (lt-ltb (length s) (p + 2) k, recordAt)
 
-  pub step-short : p < length s → length s < p + 2 → stepAt n s p ≡ refuses badMark p
-  unfolding recordAt
-  step-short h k = step-inside h ∙ rw (lt-ltb (length s) (p + 2) k, recordAt)
+    pub over-mark : (m : ℕ) → p + 2 ≤ length s → getD s p 0 * 256 + getD s (p + 1) 0 ≡ m → recordOver n s d p ≡ byMark m then over
+    unfolding recordOver over
+    over-mark m h e = ap (λ (o : Outcome Found). o then over) (record-mark h ∙ ap byMark e)
 
-  pub step-past : length s ≤ p → stepAt n s p ≡ gives none
-  unfolding stepAt
-  step-past h = rw (le-ltb p (length s) h, stepAt)
+    loaded-over : (short fits : Bool) (k : Kind) → operandCount k ≡ 0
+        → refuse short badPayload p (elim fits [ true ↦ gives (record { kind = k; next = p + 3 }) | false ↦ refuses badPayload p ]) then over
+        ≡ refuse short badPayload p (elim fits [ true ↦ gives (record { kind = k; next = p + 3 }) | false ↦ refuses badPayload p ])
+    unfolding over
+    loaded-over true fits k e = refl
+    loaded-over false true k e = let z : operandCount k ≤ d = omega arith in rw (le-ltb d (operandCount k) z)
+    loaded-over false false k e = refl
 
-  -- ---- row 1
+    pub over-constant : byMark 0x434f then over ≡ constantAt s p
+    unfolding byMark constantAt loaded
+    over-constant =
+        let c : ℕ = getD s (p + 2) 0 in
+        loaded-over (ltb (length s) (p + 3)) (leb c 1) (Constant (eqb c 1)) refl
 
-  pub read-over : ruleFlags < n → read n s p ≡ refuses tooManyFlags 0
-  unfolding read
-  read-over l = rw (lt-ltb ruleFlags n l)
+    pub over-flag : byMark 0x5641 then over ≡ flagAt n s p
+    unfolding byMark flagAt loaded
+    over-flag = loaded-over (ltb (length s) (p + 3)) (ltb (getD s (p + 2) 0) n) (Flag (getD s (p + 2) 0)) refl
 
-  pub read-within : n ≤ ruleFlags → read n s p ≡ stepAt n s p
-  unfolding read stepAt
-  read-within l = rw (le-ltb ruleFlags n l)
+  count-two : (k : Kind) → operandCount k ≤ 2
+  count-two (Constant b) = omega arith
+  count-two (Flag i) = omega arith
+  count-two And = omega arith
+  count-two Or = omega arith
+  count-two Xor = omega arith
+  count-two Not = omega arith
+
+  pub over-two : (r : Found) → recordAt n s p ≡ gives r → recordOver n s 2 p ≡ gives r
+  unfolding recordOver
+  over-two r e = rw (e, le-ltb 2 (operandCount (r .kind)) (count-two (r .kind)))

@@ -1,13 +1,14 @@
--- The reader's answer on paper: document 01's number and values for each case.
+-- A record in code on paper: document 01's number and values for each case.
 --   kindOf k         == the kind of a record
---   readingOf r      == a record with the next place, the end, or a refusal
-use mathlib.Core.Option.{Option, none, some}
+--   recordOf r       == its kind, and the next place
+--   foundOf f        == a record, or its refusal
 use Rattle.rules.specs.Outcome.{Outcome, gives, refuses}
 use Rattle.rules.specs.Record as paper
 use Rattle.expr.specs.declared.Kind.{Kind}
 use Rattle.expr.specs.declared.Kind.the-variants.{Constant, Variable, And, Or, Xor, Not}
-use Rattle.expr.specs.declared.Reading.{Reading}
-use Rattle.expr.specs.declared.Reading.the-variants.{Found, End, Refused}
+use Rattle.expr.specs.declared.Record.{Record}
+use Rattle.expr.specs.declared.Found.{Found}
+use Rattle.expr.specs.declared.Found.the-variants.{Whole, Refused}
 
 abbrev pub kindOf : Kind → paper.Kind
 kindOf (Constant b) = paper.Constant b
@@ -17,7 +18,9 @@ kindOf Or = paper.Or
 kindOf Xor = paper.Xor
 kindOf Not = paper.Not
 
-abbrev pub readingOf : Reading → Outcome (Option paper.Found)
-readingOf (Found node) = gives (some (record { kind = kindOf (node .kind); next = node .next }))
-readingOf End = gives none
-readingOf (Refused r) = refuses (r .number) (r .place)
+abbrev pub recordOf : Record → paper.Found
+recordOf r = record { kind = kindOf (r .kind); next = r .next }
+
+abbrev pub foundOf : Found → Outcome paper.Found
+foundOf (Whole r) = gives (recordOf r)
+foundOf (Refused r) = refuses (r .number) (r .place)

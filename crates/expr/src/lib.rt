@@ -1,17 +1,15 @@
-// Records of an expression's bytes, after `expr.rs`: the reader answers one record at a place, and `step` is the same for a walk over all of them. It
-// rests on the definitions of `rules`.
+// Records of an expression's bytes, after `expr.rs`: what a record is, and which one begins at a place by its mark, its payload and the number of
+// operands before it. It rests on the definitions of `rules`.
 use rules::BAD_MARK;
 use rules::BAD_PAYLOAD;
-use rules::RULE_FLAGS;
+use rules::FEW_OPERANDS;
 use rules::Refusal;
-use rules::TOO_MANY_FLAGS;
 ghost use mathlib.Core.Path.{_≡_};
-ghost use Prim.Native.Nat.{_+_, _*_, _^_, _≤_, _<_};
+ghost use Prim.Native.Nat.{_+_, _*_, _<_};
 ghost use lib.ListN.{length};
-ghost use Rattle.rules.specs.Calls;
-ghost use Rattle.rules.specs.Limits.{ruleFlags};
-ghost use Rattle.expr.specs.Answers.{readingOf, kindOf};
-ghost use Rattle.expr.specs.Inner.{arityOf, orOf, stepAt, constantAt, flagAt};
+ghost use Rattle.rules.specs.Record.{operandCount};
+ghost use Rattle.expr.specs.Answers.{foundOf, kindOf};
+ghost use Rattle.expr.specs.Inner.{orOf, recordOver, operatorAt, constantAt, flagAt};
 
 // The marks: two ASCII letters as one number, the first letter high.
 const CO: u16 = 0x434f;
@@ -36,22 +34,21 @@ pub enum Kind {
     Not,
 }
 
-// A record that was read, and the place after it.
-pub struct Node {
+// A record, and the place after it.
+pub struct Record {
     pub kind: Kind,
     pub next: usize,
 }
 
-// What the reader finds at a place.
-pub enum Reading {
-    Found(Node),
-    End,
+// What begins at a place: a whole record, or one that is refused by rows 6, 7 or 8.
+pub enum Found {
+    Whole(Record),
     Refused(Refusal),
 }
 
 // How many operands a record takes from the stack.
 pub fn arity(kind: Kind) -> usize
-    ensures { λ r. ⌜ r ≡ arityOf (kindOf kind) ⌝ }
+    ensures { λ r. ⌜ r ≡ operandCount (kindOf kind) ⌝ }
 {
     match kind {
         Kind::Constant(_) => 0,
@@ -77,35 +74,27 @@ pub fn is_or(kind: Kind) -> bool
     }
 }
 
-// The record at a place, or the end where no byte is left there.
-pub fn read(flags: usize, bytes: &[u8], place: usize) -> Reading
-    ensures { λ r. ⌜ readingOf r ≡ Calls.read flags (now (bytes .entry)) place ⌝ }
+// The record that begins at a place before the end of the bytes, where so many operands are left by the records before it. What its arms share is
+// made before them, so that the whole is small enough to be inlined into every walk (docs/DECISIONS.md).
+pub fn record_at(flags: usize, bytes: &[u8], depth: usize, place: usize) -> Found
+    requires { ⌜ place < length (now bytes) ⌝ }
+    ensures { λ r. ⌜ foundOf r ≡ recordOver flags (now (bytes .entry)) depth place ⌝ }
 {
-    if RULE_FLAGS < flags {
-        return refused(TOO_MANY_FLAGS, 0);
-    }
-    step(flags, bytes, place)
-}
-
-// The same for a walk over the records, whose call has passed row 1.
-pub fn step(flags: usize, bytes: &[u8], place: usize) -> Reading
-    requires { ⌜ flags ≤ ruleFlags ⌝ }
-    ensures { λ r. ⌜ readingOf r ≡ stepAt flags (now (bytes .entry)) place ⌝ }
-{
-    if bytes.len() <= place {
-        return Reading::End;
-    }
-    if bytes.len() - place < 2 {
+    let left = bytes.len() - place;
+    if left < 2 {
         return refused(BAD_MARK, place);
     }
+    let next = place + 2;
+    let none = depth < 1;
+    let few = depth < 2;
     let mark = letters(bytes[place], bytes[place + 1]);
     match mark {
-        CO => constant(bytes, place),
-        VA => variable(flags, bytes, place),
-        AN => operator(Kind::And, place),
-        OR => operator(Kind::Or, place),
-        XO => operator(Kind::Xor, place),
-        NO => operator(Kind::Not, place),
+        CO => constant(bytes, place, left),
+        VA => variable(flags, bytes, place, left),
+        AN => operator(Kind::And, few, place, next),
+        OR => operator(Kind::Or, few, place, next),
+        XO => operator(Kind::Xor, few, place, next),
+        NO => operator(Kind::Not, none, place, next),
         _ => refused(BAD_MARK, place),
     }
 }
@@ -117,35 +106,33 @@ fn letters(first: u8, second: u8) -> u16
     (first as u16) * 256 + (second as u16)
 }
 
-// A refusal as the reader's answer.
-fn refused(number: u64, place: usize) -> Reading
-    ensures { λ r. ⌜ r ≡ Reading.Refused (record { number = number; place = place }) ⌝ }
+fn refused(number: u64, place: usize) -> Found
+    ensures { λ r. ⌜ r ≡ Found.Refused (record { number = number; place = place }) ⌝ }
 {
-    Reading::Refused(Refusal { number, place })
+    Found::Refused(Refusal { number, place })
 }
 
-// A record of two bytes.
-fn operator(kind: Kind, place: usize) -> Reading
-    requires { ⌜ place + 2 < 2 ^ 64 ⌝ }
-    ensures { λ r. ⌜ r ≡ Reading.Found (record { kind = kind; next = place + 2 }) ⌝ }
+// An operator's record, which is refused where its operands are too few.
+fn operator(kind: Kind, few: bool, place: usize, next: usize) -> Found
+    ensures { λ r. ⌜ foundOf r ≡ operatorAt (kindOf kind) few place next ⌝ }
 {
-    Reading::Found(Node {
-        kind,
-        next: place + 2,
-    })
+    if few {
+        return refused(FEW_OPERANDS, place);
+    }
+    Found::Whole(Record { kind, next })
 }
 
 // A constant's record: the payload is 0 or 1.
-fn constant(bytes: &[u8], place: usize) -> Reading
-    requires { ⌜ place + 2 ≤ length (now bytes) ⌝ }
-    ensures { λ r. ⌜ readingOf r ≡ constantAt (now (bytes .entry)) place ⌝ }
+fn constant(bytes: &[u8], place: usize, left: usize) -> Found
+    requires { ⌜ place + left ≡ length (now bytes) ⌝ }
+    ensures { λ r. ⌜ foundOf r ≡ constantAt (now (bytes .entry)) place ⌝ }
 {
-    if bytes.len() - place < 3 {
+    if left < 3 {
         return refused(BAD_PAYLOAD, place);
     }
     let payload = bytes[place + 2];
     match payload {
-        0..=1 => Reading::Found(Node {
+        0..=1 => Found::Whole(Record {
             kind: Kind::Constant(payload == 1),
             next: place + 3,
         }),
@@ -154,16 +141,16 @@ fn constant(bytes: &[u8], place: usize) -> Reading
 }
 
 // A flag's record: the payload is an index below the flag count.
-fn variable(flags: usize, bytes: &[u8], place: usize) -> Reading
-    requires { ⌜ place + 2 ≤ length (now bytes) ⌝ }
-    ensures { λ r. ⌜ readingOf r ≡ flagAt flags (now (bytes .entry)) place ⌝ }
+fn variable(flags: usize, bytes: &[u8], place: usize, left: usize) -> Found
+    requires { ⌜ place + left ≡ length (now bytes) ⌝ }
+    ensures { λ r. ⌜ foundOf r ≡ flagAt flags (now (bytes .entry)) place ⌝ }
 {
-    if bytes.len() - place < 3 {
+    if left < 3 {
         return refused(BAD_PAYLOAD, place);
     }
     let payload = bytes[place + 2];
     if (payload as usize) < flags {
-        return Reading::Found(Node {
+        return Found::Whole(Record {
             kind: Kind::Variable(payload),
             next: place + 3,
         });

@@ -1,5 +1,5 @@
 -- Laws of costing on paper: what it answers by the flag count and by the expression's tree, and what its answer says of the tree. They rest on
--- `costing` and `parse` of rules' Calls and on the laws of laws' Outcome and expr's Costed.
+-- `costing` and `parse` of rules' Calls and on the laws of laws' Outcome and reader's Costed.
 --   costs t                            == a tree's cost, size and depth
 --   costing-over, costing-within       == with too many flags; else by the machine
 --   costing-refused                    == a refusal of the machine is costing's
@@ -17,8 +17,8 @@ use Rattle.rules.specs.Machine.{made}
 use Rattle.rules.specs.Outcome.{Outcome, gives, refuses, _then_}
 use Rattle.rules.specs.Tree.{Tree, cost, size, depth}
 use Rattle.laws.proofs.calls.Outcome.{gives-same, then-gives, then-refuses}
-use Rattle.expr.specs.Inner.{ended}
-use Rattle.expr.proofs.Costed.{Costed, costed-end}
+use Rattle.reader.specs.Inner.{ended}
+use Rattle.reader.proofs.Costed.{Costed, costed-end}
 
 abbrev pub costs : Tree → Costs
 costs t = record { cost = cost t; size = size t; depth = depth t }
@@ -45,8 +45,8 @@ module _ (n : ℕ) (s : List ℕ) where
   unfolding costing
   costing-refuses k p e = then-refuses (parse n s) costs k p e
 
-pub costing-end : {n : ℕ} {s : List ℕ} {entries count place deep : ℕ} {a : List ℕ} {ors : List Bool} {less : ℕ}
-    → Costed depth n s entries count place deep a ors less
+pub costing-end : {n : ℕ} {s : List ℕ} {entries count place deep : ℕ} {a : List ℕ} {ors : List Bool} {starts : List ℕ} {less : ℕ}
+    → Costed depth n s entries count place deep a ors starts less
     → n ≤ ruleFlags → length s ≤ place
     → {o : Outcome Costs} → o ≡ ended deep (length s) (gives (record { cost = count - less; size = count; depth = getD a 0 0 })) → o ≡ costing n s
 costing-end {n} {s} w h l e =

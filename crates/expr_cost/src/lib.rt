@@ -1,9 +1,8 @@
 // Costs of an expression, after `expr_cost.rs` and `anf_expr_cost`: cost, size and depth in a walk over its records. A tree's size is its number of
-// records, and its cost is that less one for each OR whose first operand is an OR. It rests on `expr`.
+// records, and its cost is that less one for each OR whose first operand is an OR. It rests on `reader`.
 use expr::Kind;
-use expr::Reading;
+use reader::Reading;
 use rules::BAD_END;
-use rules::FEW_OPERANDS;
 use rules::MANY_RECORDS;
 use rules::RECORD_LIMIT;
 use rules::RULE_FLAGS;
@@ -11,13 +10,15 @@ use rules::Refusal;
 use rules::TOO_MANY_FLAGS;
 ghost use mathlib.Core.Bool.{false};
 ghost use mathlib.Core.Path.{_≡_};
-ghost use Prim.Native.Nat.{_-_, _≤_, _<_, max};
+ghost use Prim.Native.Nat.{_-_, _≤_, max};
 ghost use lib.ListN.{length};
 ghost use Rattle.rules.specs.Calls;
 ghost use Rattle.rules.specs.Limits.{ruleFlags};
 ghost use Rattle.rules.specs.Outcome.{gives};
+ghost use Rattle.rules.specs.Record.{operandCount};
 ghost use Rattle.expr.specs.Answers.{kindOf};
-ghost use Rattle.expr.specs.Inner.{arityOf, orOf, ended, Within};
+ghost use Rattle.expr.specs.Inner.{orOf};
+ghost use Rattle.reader.specs.Inner.{ended, Stacks, Within};
 ghost use Rattle.expr_cost.specs.Answers.{costingOf};
 ghost use Rattle.expr_cost.specs.Inner.{attemptOf, Ready, Stacked};
 
@@ -50,7 +51,7 @@ struct Top {
     saved: usize,
 }
 
-// The answer of one record: stopped where its operands are missing, or no entry is left for it.
+// The answer of one record: stopped where no entry is left for it.
 enum Pushed {
     At(Top),
     Stopped,
@@ -73,7 +74,8 @@ fn walk(flags: usize, bytes: &[u8]) -> Costing
 {
     let mut stack = [0u16; 24];
     let mut ors = [false; 24];
-    let attempt = walk_on(flags, bytes, &mut stack, &mut ors);
+    let mut starts = [0u16; 24];
+    let attempt = walk_on(flags, bytes, &mut stack, &mut ors, &mut starts);
     match attempt {
         Attempt::Done(costing) => costing,
         Attempt::Full => walk_deep(flags, bytes),
@@ -87,24 +89,31 @@ fn walk_deep(flags: usize, bytes: &[u8]) -> Costing
 {
     let mut stack = [0u16; RECORD_LIMIT + 1];
     let mut ors = [false; RECORD_LIMIT + 1];
-    let attempt = walk_on(flags, bytes, &mut stack, &mut ors);
+    let mut starts = [0u16; RECORD_LIMIT + 1];
+    let attempt = walk_on(flags, bytes, &mut stack, &mut ors, &mut starts);
     match attempt {
         Attempt::Done(costing) => costing,
         Attempt::Full => refused(MANY_RECORDS, 0),
     }
 }
 
-// The records in turn over a stack of depths; beside it stands whether an entry is an OR.
-fn walk_on(flags: usize, bytes: &[u8], stack: &mut [u16], ors: &mut [bool]) -> Attempt
-    requires { ⌜ (flags ≤ ruleFlags) × (0 < length (now stack)) × (length (now ors) ≡ length (now stack)) ⌝ }
+// The records in turn over a stack of depths; beside it stand whether an entry is an OR, and where it begins.
+fn walk_on(
+    flags: usize,
+    bytes: &[u8],
+    stack: &mut [u16],
+    ors: &mut [bool],
+    starts: &mut [u16],
+) -> Attempt
+    requires { ⌜ (flags ≤ ruleFlags) × Stacks (length (now stack)) (now ors) (now starts) ⌝ }
     ensures { λ r. ⌜ Within (length (now (stack .entry))) (Calls.costing flags (now (bytes .entry))) (attemptOf r) ⌝ }
 {
     let mut depth = 0;
     let mut place = 0;
     let mut count = 0;
     let mut saved = 0;
-    while count < RECORD_LIMIT {
-        let answer = expr::step(flags, bytes, place);
+    loop {
+        let answer = reader::step(flags, bytes, starts, depth, place, count);
         let Reading::Found(node) = answer else {
             let Reading::Refused(refusal) = answer else {
                 return Attempt::Done(finished(stack[0], count, saved, depth, bytes.len()));
@@ -114,26 +123,21 @@ fn walk_on(flags: usize, bytes: &[u8], stack: &mut [u16], ors: &mut [bool]) -> A
         let kind = node.kind;
         let pushed = push(kind, stack, ors, depth, saved);
         let Pushed::At(top) = pushed else {
-            if depth < expr::arity(kind) {
-                return Attempt::Done(refused(FEW_OPERANDS, place));
-            }
             return Attempt::Full;
         };
-        depth = top.base + 1;
+        let base = top.base;
+        reader::keep(kind, starts, base, place);
+        depth = base + 1;
         saved = top.saved;
         place = node.next;
         count = count + 1;
     }
-    if place < bytes.len() {
-        return Attempt::Done(refused(MANY_RECORDS, place));
-    }
-    Attempt::Done(finished(stack[0], count, saved, depth, bytes.len()))
 }
 
 // One record over the operands of the stack. The code of each kind is apart, so that the reader's answer is branched on once.
 fn push(kind: Kind, stack: &mut [u16], ors: &mut [bool], depth: usize, saved: usize) -> Pushed
-    requires { ⌜ Ready (arityOf (kindOf kind)) (now stack) (now ors) depth saved ⌝ }
-    ensures { λ r. ⌜ Stacked (arityOf (kindOf kind)) (orOf (kindOf kind)) (now (stack .entry)) (now (ors .entry)) depth saved
+    requires { ⌜ Ready (operandCount (kindOf kind)) (now stack) (now ors) depth saved ⌝ }
+    ensures { λ r. ⌜ Stacked (operandCount (kindOf kind)) (orOf (kindOf kind)) (now (stack .entry)) (now (ors .entry)) depth saved
         (now (stack .exit)) (now (ors .exit)) r ⌝ }
 {
     match kind {
@@ -164,9 +168,6 @@ fn unary(stack: &mut [u16], ors: &mut [bool], depth: usize, saved: usize) -> Pus
     requires { ⌜ Ready 1 (now stack) (now ors) depth saved ⌝ }
     ensures { λ r. ⌜ Stacked 1 false (now (stack .entry)) (now (ors .entry)) depth saved (now (stack .exit)) (now (ors .exit)) r ⌝ }
 {
-    if depth < 1 {
-        return Pushed::Stopped;
-    }
     let base = depth - 1;
     stack[base] = stack[base] + 1;
     ors[base] = false;
@@ -178,9 +179,6 @@ fn binary(or: bool, stack: &mut [u16], ors: &mut [bool], depth: usize, saved: us
     requires { ⌜ Ready 2 (now stack) (now ors) depth saved ⌝ }
     ensures { λ r. ⌜ Stacked 2 or (now (stack .entry)) (now (ors .entry)) depth saved (now (stack .exit)) (now (ors .exit)) r ⌝ }
 {
-    if depth < 2 {
-        return Pushed::Stopped;
-    }
     let base = depth - 2;
     let above = base + 1;
     let saved = saved + ((or & ors[base]) as usize);

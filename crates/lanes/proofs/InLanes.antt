@@ -1,5 +1,5 @@
 -- Laws of lanes: the operations on whole words are those of the records in every lane at once. They rest on the laws of bits (bits, Bit) and of a
--- tree's values for 64 stars (laws, Stars) and, for the walk, on the laws of expr's Costed.
+-- tree's values for 64 stars (laws, Stars) and, for the walk, on the laws of reader's Costed.
 --   combined n ws k x y      == the lanes of a record from those of its operands, for a flag of any index
 --   lanes-folds              == so the walk's stack of lanes follows the machine's stack of trees
 --   lanes-step               == one record more in the code's walk
@@ -15,20 +15,21 @@ use lib.ListN.{length, getD, set}
 use mir.Val.{boolByte}
 use Rattle.bits.specs.Bit.{_⊕_}
 use Rattle.bits.proofs.Bit.{bit-and, bit-or, bit-xor, bit-not, bit-zero}
-use Rattle.rules.specs.Limits.{recordLimit}
 use Rattle.rules.specs.Machine.{made}
 use Rattle.rules.specs.Outcome.{Outcome, gives, refuses, _then_}
-use Rattle.rules.specs.Record.{Kind, Constant, Flag, And, Or, Xor, Not, FlagBelow, Found}
+use Rattle.rules.specs.Record.{Kind, Constant, Flag, And, Or, Xor, Not, FlagBelow, Found, operandCount}
 use Rattle.rules.specs.Stars.{starValues}
 use Rattle.rules.specs.Tree.{Tree, CO, VA, AN, OR, XO, NO, value, cost}
 use Rattle.laws.proofs.calls.Stars.{bit-starSetting, bit-starValues, starValues-lt, starValues-ext}
-use Rattle.expr.specs.Inner.{arityOf, orOf, ended}
-use Rattle.expr.proofs.Costed.{Costed, costed-step, costed-end}
-use Rattle.expr.proofs.Reader.{Read, read-index}
-use Rattle.expr.proofs.Walk.{Folds}
+use Rattle.expr.specs.Inner.{orOf}
+use Rattle.expr.proofs.ReadRecord.{read-index}
+use Rattle.reader.specs.Inner.{begun, ended}
+use Rattle.reader.proofs.Costed.{Costed, costed-step, costed-end}
+use Rattle.reader.proofs.Turn.{Stepped}
+use Rattle.reader.proofs.Walk.{Folds}
 use Rattle.lanes.specs.declared.Seen.{Seen}
 use Rattle.lanes.specs.Lanes.{seen}
-use Rattle.lanes.specs.Inner.{filled, applied}
+use Rattle.lanes.specs.Inner.{filled, applied, appliedAt}
 
 module _ (n : ℕ) (ws : List ℕ) where
   -- ---- one record
@@ -96,16 +97,16 @@ module _ (n : ℕ) (ws : List ℕ) where
 
   -- ---- the walk
 
-  module _ {s : List ℕ} {entries count place depth less : ℕ} {a : List ℕ} {ors : List Bool}
-      (w : Costed (starValues n ws) n s entries count place depth a ors less) where
-    pub lanes-step : ((i : ℕ) → getD ws i 0 < 2 ^ 64) → {r : Found} → Read n s place r → count < recordLimit
-        → (base : ℕ) → base + arityOf (r .kind) ≡ depth → base < entries
-        → (v : ℕ) → v ≡ applied ws (r .kind) (getD a base 0) (getD a (base + 1) 0) → (o : Bool) → o ≡ orOf (r .kind)
+  module _ {s : List ℕ} {entries count place depth less : ℕ} {a : List ℕ} {ors : List Bool} {starts : List ℕ}
+      (w : Costed (starValues n ws) n s entries count place depth a ors starts less) where
+    pub lanes-step : ((i : ℕ) → getD ws i 0 < 2 ^ 64) → {r : Found} → Stepped n s depth place count r
+        → (base : ℕ) → base + operandCount (r .kind) ≡ depth → base < entries
+        → (v : ℕ) → v ≡ appliedAt ws (r .kind) a base → (o : Bool) → o ≡ orOf (r .kind)
         → Costed (starValues n ws) n s entries (count + 1) (r .next) (base + 1) (set a base v) (set ors base o)
-        (less + boolByte (o && getD ors base false))
-    lanes-step small {r} f l base h below v is =
-        let same = applied-combined small (r .kind) (read-index f n (le-refl n)) (getD a base 0) (getD a (base + 1) 0) in
-        costed-step w lanes-folds 0 f l base h below v (is ∙ same)
+        (set starts base (begun (r .kind) place (getD starts base 0))) (less + boolByte (o && getD ors base false))
+    lanes-step small {r} f base h below v is =
+        let same = applied-combined small (r .kind) (read-index (f .stands) n (le-refl n)) (getD a base 0) (getD a (base + 1) 0) in
+        costed-step w lanes-folds 0 f base h below v (is ∙ same)
 
     pub seen-end : length s ≤ place → seen n s ws ≡ ended depth (length s) (gives (record { values = getD a 0 0; cost = count - less }))
     unfolding seen

@@ -1,23 +1,22 @@
 // An expression at 64 settings side by side, one word for each flag: a walk over its records that answers the values in one word, and the cost of
-// the tree on the way. A tree costs one for each record, less one for each OR whose first operand is an OR. It rests on `expr`.
+// the tree on the way. A tree costs one for each record, less one for each OR whose first operand is an OR. It rests on `reader`.
 use expr::Kind;
-use expr::Reading;
+use reader::Reading;
 use rules::BAD_END;
-use rules::FEW_OPERANDS;
 use rules::MANY_RECORDS;
 use rules::RECORD_LIMIT;
 use rules::Refusal;
 ghost use mathlib.Core.Path.{_≡_};
-ghost use Prim.Native.Nat.{_≤_, _<_};
-ghost use lib.ListN.{length};
+ghost use Prim.Native.Nat.{_-_, _≤_, _<_};
+ghost use lib.ListN.{length, getD};
 ghost use Rattle.rules.specs.Limits.{ruleFlags};
 ghost use Rattle.rules.specs.Outcome.{gives};
-ghost use Rattle.rules.specs.Record.{FlagBelow};
+ghost use Rattle.rules.specs.Record.{FlagBelow, operandCount};
 ghost use Rattle.expr.specs.Answers.{kindOf};
-ghost use Rattle.expr.specs.Inner.{ended, Within};
+ghost use Rattle.reader.specs.Inner.{ended, Within, Stacks};
 ghost use Rattle.lanes.specs.Lanes.{seen};
 ghost use Rattle.lanes.specs.Answers.{walkedOf};
-ghost use Rattle.lanes.specs.Inner.{attemptOf, applied, filled};
+ghost use Rattle.lanes.specs.Inner.{attemptOf, appliedAt, filled};
 
 // The values of an expression in all lanes, and its cost.
 pub struct Seen {
@@ -44,7 +43,8 @@ pub fn walk(flags: usize, bytes: &[u8], words: &[u64]) -> Walked
 {
     let mut stack = [0u64; 24];
     let mut ors = [false; 24];
-    let attempt = walk_on(flags, bytes, words, &mut stack, &mut ors);
+    let mut starts = [0u16; 24];
+    let attempt = walk_on(flags, bytes, words, &mut stack, &mut ors, &mut starts);
     match attempt {
         Attempt::Done(walked) => walked,
         Attempt::Full => walk_deep(flags, bytes, words),
@@ -59,7 +59,8 @@ pub fn walk_stars(flags: usize, bytes: &[u8], words: &[u64]) -> Walked
 {
     let mut stack = [0u64; 24];
     let mut ors = [false; 24];
-    let attempt = walk_on(flags, bytes, words, &mut stack, &mut ors);
+    let mut starts = [0u16; 24];
+    let attempt = walk_on(flags, bytes, words, &mut stack, &mut ors, &mut starts);
     match attempt {
         Attempt::Done(walked) => walked,
         Attempt::Full => walk_deep(flags, bytes, words),
@@ -72,7 +73,8 @@ pub fn walk_for_reader(flags: usize, bytes: &[u8], words: &[u64]) -> Walked
 {
     let mut stack = [0u64; 24];
     let mut ors = [false; 24];
-    let attempt = walk_on(flags, bytes, words, &mut stack, &mut ors);
+    let mut starts = [0u16; 24];
+    let attempt = walk_on(flags, bytes, words, &mut stack, &mut ors, &mut starts);
     match attempt {
         Attempt::Done(walked) => walked,
         Attempt::Full => walk_deep(flags, bytes, words),
@@ -85,7 +87,8 @@ pub fn walk_for_writer(flags: usize, bytes: &[u8], words: &[u64]) -> Walked
 {
     let mut stack = [0u64; 24];
     let mut ors = [false; 24];
-    let attempt = walk_on(flags, bytes, words, &mut stack, &mut ors);
+    let mut starts = [0u16; 24];
+    let attempt = walk_on(flags, bytes, words, &mut stack, &mut ors, &mut starts);
     match attempt {
         Attempt::Done(walked) => walked,
         Attempt::Full => walk_deep(flags, bytes, words),
@@ -100,30 +103,32 @@ pub fn walk_deep(flags: usize, bytes: &[u8], words: &[u64]) -> Walked
 {
     let mut stack = [0u64; RECORD_LIMIT + 1];
     let mut ors = [false; RECORD_LIMIT + 1];
-    let attempt = walk_on(flags, bytes, words, &mut stack, &mut ors);
+    let mut starts = [0u16; RECORD_LIMIT + 1];
+    let attempt = walk_on(flags, bytes, words, &mut stack, &mut ors, &mut starts);
     match attempt {
         Attempt::Done(walked) => walked,
         Attempt::Full => refused(MANY_RECORDS, 0),
     }
 }
 
-// The records in turn over a stack of words; beside it stands whether an entry is an OR.
+// The records in turn over a stack of words; beside it stand whether an entry is an OR, and where it begins.
 fn walk_on(
     flags: usize,
     bytes: &[u8],
     words: &[u64],
     stack: &mut [u64],
     ors: &mut [bool],
+    starts: &mut [u16],
 ) -> Attempt
-    requires { ⌜ (flags ≤ ruleFlags) × (flags ≤ length (now words)) × (0 < length (now stack)) × (length (now ors) ≡ length (now stack)) ⌝ }
+    requires { ⌜ (flags ≤ ruleFlags) × (flags ≤ length (now words)) × Stacks (length (now stack)) (now ors) (now starts) ⌝ }
     ensures { λ r. ⌜ Within (length (now (stack .entry))) (seen flags (now (bytes .entry)) (now (words .entry))) (attemptOf r) ⌝ }
 {
     let mut depth = 0;
     let mut place = 0;
     let mut count = 0;
     let mut saved = 0;
-    while count < RECORD_LIMIT {
-        let answer = expr::step(flags, bytes, place);
+    loop {
+        let answer = reader::step(flags, bytes, starts, depth, place, count);
         let Reading::Found(node) = answer else {
             let Reading::Refused(refusal) = answer else {
                 return Attempt::Done(finished(stack[0], count - saved, depth, bytes.len()));
@@ -131,11 +136,8 @@ fn walk_on(
             return Attempt::Done(Walked::Refused(refusal));
         };
         let kind = node.kind;
-        let operands = expr::arity(kind);
-        if depth < operands {
-            return Attempt::Done(refused(FEW_OPERANDS, place));
-        }
-        let base = depth - operands;
+        let value = value_of(kind, words, stack, depth);
+        let base = depth - expr::arity(kind);
         let second = base + 1;
         if stack.len() <= second {
             return Attempt::Full;
@@ -143,15 +145,12 @@ fn walk_on(
         let or = expr::is_or(kind);
         saved = saved + ((or & ors[base]) as usize);
         ors[base] = or;
-        stack[base] = value(kind, words, stack[base], stack[second]);
+        stack[base] = value;
+        reader::keep(kind, starts, base, place);
         depth = second;
         place = node.next;
         count = count + 1;
     }
-    if place < bytes.len() {
-        return Attempt::Done(refused(MANY_RECORDS, place));
-    }
-    Attempt::Done(finished(stack[0], count - saved, depth, bytes.len()))
 }
 
 fn refused(number: u64, place: usize) -> Walked
@@ -170,19 +169,27 @@ fn finished(values: u64, cost: usize, depth: usize, length: usize) -> Walked
     refused(BAD_END, length)
 }
 
-// The lanes of a record from those of its operands; a leaf has none.
-fn value(kind: Kind, words: &[u64], first: u64, second: u64) -> u64
-    requires { ⌜ FlagBelow (length (now words)) (kindOf kind) ⌝ }
-    ensures { λ r. ⌜ r ≡ applied (now (words .entry)) (kindOf kind) first second ⌝ }
+// The lanes of a record from those of its operands, which are the topmost entries of the stack; a leaf has none.
+fn value_of(kind: Kind, words: &[u64], stack: &[u64], depth: usize) -> u64
+    requires { ⌜ FlagBelow (length (now words)) (kindOf kind) × (operandCount (kindOf kind) ≤ depth) × (depth ≤ length (now stack)) ⌝ }
+    ensures { λ r. ⌜ r ≡ appliedAt (now (words .entry)) (kindOf kind) (now (stack .entry)) (depth - operandCount (kindOf kind)) ⌝ }
 {
     match kind {
         Kind::Constant(b) => all(b),
         Kind::Variable(i) => words[i as usize],
-        Kind::And => first & second,
-        Kind::Or => first | second,
-        Kind::Xor => first ^ second,
-        Kind::Not => !first,
+        Kind::And => entry(stack, depth, 2) & entry(stack, depth, 1),
+        Kind::Or => entry(stack, depth, 2) | entry(stack, depth, 1),
+        Kind::Xor => entry(stack, depth, 2) ^ entry(stack, depth, 1),
+        Kind::Not => !entry(stack, depth, 1),
     }
+}
+
+// The entry so many below the top.
+fn entry(stack: &[u64], depth: usize, below: usize) -> u64
+    requires { ⌜ (0 < below) × (below ≤ depth) × (depth ≤ length (now stack)) ⌝ }
+    ensures { λ r. ⌜ r ≡ getD (now (stack .entry)) (depth - below) 0 ⌝ }
+{
+    stack[depth - below]
 }
 
 // A constant in all lanes.

@@ -3,5 +3,7 @@ pub mod Run
 pub mod Stack
 pub mod ReadBack
 pub mod WellFormed
+pub mod Operands
+pub mod TreeNodes
 pub mod FlagsBelow
 pub mod LongRows

@@ -15,7 +15,7 @@ use lib.ListN.{length}
 use borrow.Author.Tests.{le-ltb, eq-eqb}
 use Rattle.rules.specs.Calls.{parse, smaller, cheaperOf, cheaperOfTwo}
 use Rattle.rules.specs.Limits.{ruleFlags}
-use Rattle.rules.specs.Machine.{made, run, finish}
+use Rattle.rules.specs.Machine.{turn, finish, run, made}
 use Rattle.rules.specs.Outcome.{Outcome, gives, refuses, refuse}
 use Rattle.rules.specs.Tree.{Tree, size, depth}
 use Rattle.comparison.specs.Outcome.{results}
@@ -26,7 +26,7 @@ unfolding smaller
 smaller-self t = rw (le-ltb (size t) (size t) (le-refl (size t)), eq-eqb (size t) (size t) refl, le-ltb (depth t) (depth t) (le-refl (depth t)))
 
 parse-empty : (n : ℕ) (t : Tree) → parse n [] ≡ gives t → ⊥
-unfolding parse made run finish
+unfolding parse made run turn finish
 parse-empty n t e = go (ltb ruleFlags n) e
   where
     go : (b : Bool) → refuse b 1 0 (refuses 10 0) ≡ gives t → ⊥

@@ -1,7 +1,5 @@
 -- The outcomes of document 01's calls in the numbers that the files have for them, and the calls as the program asks them.
 --   damage               == what no file records
---   codeOf k             == a record's number; past 255 for a flag that no rule has
---   readOf o             == of reading: the record's number and the next place, or 255 at the end
 --   costedOf o           == of costing: cost, size and depth
 --   within k o           == o, where at most 128 entries are lent
 --   examined n k b s     == the examination of the bytes s against a table of k entries whose lowest bits are those of b
@@ -11,16 +9,14 @@
 --   preferred h          == of the two sizes and depths in h the second is smaller, as 0 or 1
 use mathlib.Core.Bool.{true, false}
 use mathlib.Core.List.{List, _∷_, map}
-use mathlib.Core.Option.{Option, none, some}
-use Prim.Native.Nat.{ℕ, _+_, _-_, _^_}
-use lib.Dec.{leb, ltb}
+use Prim.Native.Nat.{ℕ, _-_, _^_}
+use lib.Dec.{leb}
 use lib.ListN.{take, replicate}
 use Rattle.bits.specs.Bit.{digit}
 use Rattle.bits.specs.Range.{upto}
 use Rattle.rules.specs.Calls.{Costs, parse, cheaperOf, examine, rawCosting}
 use Rattle.rules.specs.Outcome as result
 use Rattle.rules.specs.Outcome.{gives, refuses}
-use Rattle.rules.specs.Record.{Kind, Found, Constant, Flag, And, Or, Xor, Not}
 use Rattle.cheaper.specs.Better.{better}
 use Rattle.comparison.specs.Outcome.{results, refusal}
 use Rattle.comparison.specs.declared.outcome.Outcome.{Outcome}
@@ -30,19 +26,6 @@ use Rattle.recorded.specs.Results.{numberOf}
 
 abbrev pub damage : Outcome
 damage = refusal 256 0
-
-abbrev pub codeOf : Kind → ℕ
-codeOf (Constant b) = digit b
-codeOf (Flag i) = elim (ltb i 8) [ true ↦ 2 + i | false ↦ 256 + i ]
-codeOf And = 10
-codeOf Or = 11
-codeOf Xor = 12
-codeOf Not = 13
-
-abbrev pub readOf : result.Outcome (Option Found) → Outcome
-readOf (gives (some r)) = results (codeOf (r .kind)) (r .next) 0 0
-readOf (gives none) = results 255 0 0 0
-readOf (refuses k p) = refusal k p
 
 abbrev pub costedOf : result.Outcome Costs → Outcome
 costedOf (gives c) = results (c .cost) (c .size) (c .depth) 0

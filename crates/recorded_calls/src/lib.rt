@@ -12,9 +12,6 @@ use evaluation::Evaluation;
 use evaluation::evaluate;
 use examiner::Examination;
 use examiner::examine;
-use expr::Kind;
-use expr::Node;
-use expr::Reading;
 use expr_cost::Costing;
 use expr_cost::Costs;
 use expr_cost::compute_cost;
@@ -22,64 +19,16 @@ use recorded::numbers::half_at;
 use recorded::numbers::word_at;
 use recorded::slices::set_table;
 use rules::Refusal;
-ghost use mathlib.Core.Option.{some};
 ghost use mathlib.Core.Path.{_≡_};
-ghost use Prim.Native.Nat.{_<_};
 ghost use Rattle.rules.specs.Calls as paper;
-ghost use Rattle.rules.specs.Outcome.{gives};
-ghost use Rattle.rules.specs.Record.{Flag};
-ghost use Rattle.expr.specs.Answers.{kindOf};
 ghost use Rattle.comparison.specs.Outcome.{refusal as refusalOf};
 ghost use Rattle.recorded.specs.Results.{numberOf};
-ghost use Rattle.recorded_calls.specs.Answers.{codeOf, readOf, costedOf, examined, rawCosted, chosen, preferred};
+ghost use Rattle.recorded_calls.specs.Answers.{costedOf, examined, rawCosted, chosen, preferred};
 
 fn refused(refusal: Refusal) -> Outcome
     ensures { λ r. ⌜ r ≡ refusalOf (refusal .number) (refusal .place) ⌝ }
 {
     outcome::refused(refusal.number, refusal.place)
-}
-
-// A flag by the number that the files have for it. They have eight, so that any other takes a number that no file has.
-fn flag_code(index: usize) -> usize
-    requires { ⌜ index < 256 ⌝ }
-    ensures { λ r. ⌜ r ≡ codeOf (Flag index) ⌝ }
-{
-    if index < 8 {
-        return 2 + index;
-    }
-    256 + index
-}
-
-// A record by the number that the files have for it.
-fn code(kind: Kind) -> usize
-    ensures { λ r. ⌜ r ≡ codeOf (kindOf kind) ⌝ }
-{
-    match kind {
-        Kind::Constant(value) => value as usize,
-        Kind::Variable(index) => flag_code(index as usize),
-        Kind::And => 10,
-        Kind::Or => 11,
-        Kind::Xor => 12,
-        Kind::Not => 13,
-    }
-}
-
-fn found(node: Node) -> Outcome
-    ensures { λ r. ⌜ r ≡ readOf (gives (some (record { kind = kindOf (node .kind); next = node .next }))) ⌝ }
-{
-    let kind = node.kind;
-    given(code(kind), node.next, 0, 0)
-}
-
-pub fn reading(flags: usize, bytes: &[u8], place: usize) -> Outcome
-    ensures { λ r. ⌜ r ≡ readOf (paper.read flags (now (bytes .entry)) place) ⌝ }
-{
-    let answer = expr::read(flags, bytes, place);
-    match answer {
-        Reading::Found(node) => found(node),
-        Reading::End => given(255, 0, 0, 0),
-        Reading::Refused(refusal) => refused(refusal),
-    }
 }
 
 pub fn evaluation(flags: usize, bytes: &[u8], setting: usize) -> Outcome

@@ -4,7 +4,8 @@
 --   asked-other   == a whole head, whose call has no number of these
 use mathlib.Core.List.{List}
 use mathlib.Core.Path.{_≡_, refl, sym, ap, _∙_}
-use Prim.Native.Nat.{ℕ, _≤_, _<_}
+use Prim.Native.Nat.{ℕ, zero, suc, _≤_, _<_}
+use native.Mathlib.Omega.{arith}
 use lib.ListN.{length, getD, List·getD-eq-default}
 use borrow.Author.Tests.{le-leb, lt-leb}
 use Rattle.comparison.specs.declared.outcome.Outcome.{Outcome}
@@ -20,6 +21,10 @@ module _ (h a b : List ℕ) where
   unfolding caseOf
   asked l i e f = f ∙ ap (λ (k : ℕ). getD (answers h a b) k damage) (sym e) ∙ rw (le-leb 38 (length h) l, caseOf)
 
-  pub asked-other : 38 ≤ length h → 6 ≤ getD h 0 0 → damage ≡ caseOf h a b
+  no-call : (i : ℕ) → (0 < i → 6 ≤ i) → damage ≡ getD (answers h a b) i damage
   unfolding answers
-  asked-other l k = asked l (getD h 0 0) refl (sym (List·getD-eq-default (answers h a b) damage k))
+  no-call zero k = refl
+  no-call (suc i) k = sym (List·getD-eq-default (answers h a b) damage (k (omega arith)))
+
+  pub asked-other : 38 ≤ length h → (0 < getD h 0 0 → 6 ≤ getD h 0 0) → damage ≡ caseOf h a b
+  asked-other l k = asked l (getD h 0 0) refl (no-call (getD h 0 0) k)

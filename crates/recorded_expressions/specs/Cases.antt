@@ -1,6 +1,6 @@
 -- A recorded item on paper: what its bytes ask, and whether the call answers as they record. h are the bytes of its head, a and b its expressions.
 --   wordOf h           == the bytes of the table's bits, or of the first coefficient word
---   answers h a b      == the outcome of each call, by its number, with the arguments in h
+--   answers h a b      == the outcome of each call, by its number from 1 on, with the arguments in h
 --   caseOf h a b       == the outcome of the call that a whole head asks
 --   changed o x        == the outcome o, its first result changed by x
 --   recordedOf h k x   == the recorded outcome, its number changed by k and its first result by x, of which 0 changes nothing
@@ -14,20 +14,20 @@ use Prim.Native.Nat.{ℕ}
 use lib.Bits.{bitXor}
 use lib.Dec.{leb}
 use lib.ListN.{length, getD, take, drop}
-use Rattle.rules.specs.Calls.{read, evaluate, costing}
+use Rattle.rules.specs.Calls.{evaluate, costing}
 use Rattle.rules.specs.Limits.{ruleFlags}
 use Rattle.comparison.specs.Outcome.{results, sameOutcome}
 use Rattle.comparison.specs.declared.outcome.Outcome.{Outcome}
 use Rattle.recorded.specs.Numbers.{pairAt, wordAt}
 use Rattle.recorded.specs.Results.{outcomeAt, numberOf}
-use Rattle.recorded_calls.specs.Answers.{damage, readOf, costedOf, examined, rawCosted, chosen, preferred}
+use Rattle.recorded_calls.specs.Answers.{damage, costedOf, examined, rawCosted, chosen, preferred}
 
 abbrev pub wordOf : List ℕ → List ℕ
 wordOf h = take 8 (drop 19 h)
 
 unfoldable pub answers : List ℕ → List ℕ → List ℕ → List Outcome
 answers h a b =
-    readOf (read (wordAt h 1) a (wordAt h 9))
+    damage
     ∷ numberOf (evaluate (wordAt h 1) a (wordAt h 9))
     ∷ costedOf (costing (wordAt h 1) a)
     ∷ examined (wordAt h 1) (pairAt h 17) (wordOf h) a

@@ -17,13 +17,12 @@ fn answer<'a>(head: &[u8], first: &'a [u8], second: &'a [u8]) -> Outcome
         return outcome::damaged();
     }
     let flags = word_at(head, 1) as usize;
-    let extra = word_at(head, 9) as usize;
+    let setting = word_at(head, 9) as usize;
     let entries = pair_at(head, 17) as usize;
     let bits = &head[19..27];
     let call = head[0];
     match call {
-        0 => recorded_calls::reading(flags, first, extra),
-        1 => recorded_calls::evaluation(flags, first, extra),
+        1 => recorded_calls::evaluation(flags, first, setting),
         2 => recorded_calls::costing(flags, first),
         3 => recorded_calls::examination(flags, entries, bits, first),
         4 => recorded_calls::raw_costing(flags, entries, bits),

@@ -4,6 +4,7 @@ use crate::cases;
 use crate::choices;
 use crate::costs;
 use crate::listings;
+use crate::readings;
 use crate::stars;
 use comparison::tally;
 use comparison::tally::Tally;
@@ -16,6 +17,7 @@ pub enum Item {
     Case,
     WrongNumber,
     WrongResult,
+    Reading,
     Stars,
     Costs,
     Choice,
@@ -29,6 +31,7 @@ fn head_size(item: Item) -> usize {
         Item::Case => 38,
         Item::WrongNumber => 38,
         Item::WrongResult => 38,
+        Item::Reading => 27,
         Item::Stars => 20,
         Item::Costs => 8,
         Item::Choice => 21,
@@ -47,6 +50,7 @@ fn is_same(item: Item, fd: i32, head: &[u8]) -> bool {
         Item::Case => cases::is_same(fd, head, 0, 0),
         Item::WrongNumber => cases::is_same(fd, head, 1, 0),
         Item::WrongResult => cases::is_same(fd, head, 0, 1),
+        Item::Reading => readings::is_same(fd, head),
         Item::Stars => stars::is_same(fd, head),
         Item::Costs => costs::is_same(fd, head),
         Item::Choice => choices::is_same(fd, head),

@@ -1,37 +1,33 @@
 -- What the walk that prints an expression's records keeps: the records from its place on are left to print, and what is printed before them is
--- written. It rests on the records of a tree (RecordList), on what the reader answers (expr, Reader; laws, RecordAt) and on runs of stores (bits,
--- Stored).
+-- written. It rests on the records of a tree (RecordList), on what is read at a place (expr, ReadRecord and Marks; laws, RecordAt) and on runs of
+-- stores (bits, Stored).
 --   gap-none, gap-some       == nothing before the first record, and a space before every other
 --   after p ks               == the text of the records ks, of which the first begins at byte p
 --   Left                     == what the walk keeps
---   Next w r, left-next      == r is the next record; what the reader finds is
---   left-found               == where bytes are left the code's answer is a record
+--   Next w r, left-next      == r is the next record; what is read over two operands is
+--   left-found               == where bytes are left none is refused
 --   left-start, left-step    == before the first record; one record more
 --   left-end                 == where no bytes are left all is written
 --   left-gap, left-kind      == there is room for the space and for the record's text
 use mathlib.Core.List.{List, [], _∷_, _++_, append-assoc, append-nil}
-use mathlib.Core.Logic.{_⊎_, ⊎-elim}
 use mathlib.Core.Path.{_≡_, refl, sym, ap, subst, _∙_}
 use Prim.Native.Nat.{ℕ, zero, suc, _+_, _≤_, _<_}
 use native.Mathlib.Omega.{arith}
 use lib.ListN.{length, drop, length-append, length-drop}
-use denote.Enum.Declared.{tagOf}
 use Rattle.bits.specs.Range.{Below}
 use Rattle.bits.proofs.Every.{Every}
 use Rattle.rules.specs.Ascii.{ascii}
 use Rattle.rules.specs.Machine.{made, WellFormed}
-use Rattle.rules.specs.Outcome.{gives}
-use Rattle.rules.specs.Record.{Kind, FlagBelow, Found, recordAt}
+use Rattle.rules.specs.Outcome.{gives, refuses}
+use Rattle.rules.specs.Record.{Kind, FlagBelow, Found}
 use Rattle.rules.specs.Text.{records}
 use Rattle.rules.specs.Tree.{Tree}
-use Rattle.laws.proofs.calls.Outcome.{gives-same}
+use Rattle.laws.proofs.calls.Outcome.{gives-same, not-both}
 use Rattle.laws.proofs.reading.RecordAt.{bytesOf, bytesOf-long, drop-past, record-at}
 use Rattle.laws.proofs.reading.WellFormed.{made-is}
-use Rattle.expr.specs.Answers.{readingOf}
-use Rattle.expr.specs.Inner.{stepAt}
-use Rattle.expr.specs.declared.Reading.{Reading}
-use Rattle.expr.proofs.Reader.{Read, step-end, step-refused}
-use Rattle.expr.proofs.Reading.{the-type}
+use Rattle.expr.specs.Inner.{recordOver}
+use Rattle.expr.proofs.Marks.{over-two}
+use Rattle.expr.proofs.ReadRecord.{Read, found-read}
 use Rattle.bits.specs.Stored.{Room, Stored}
 use Rattle.bits.proofs.Stored.{stored-none, stored-append, stored-eq, room-eq, room-first, room-next}
 use Rattle.rule_text.specs.inner.Parts.{gap, kindText, shown}
@@ -91,30 +87,31 @@ module _ (n : ℕ) (s : List ℕ) where
 module _ {n : ℕ} {s text : List ℕ} {at place next : ℕ} {out now : List ℕ} (w : Left n s text at place next out now) where
   -- the next record, and the records after it
   pub record Next (r : Found) : Type 0 where
+    pub read : Read n s place r
     pub others : List Kind
     pub is : w .rest ≡ r .kind ∷ others
     pub behind : r .next ≡ place + length (bytesOf (r .kind))
 
-  -- where bytes are left a record stands
-  stands : place < length s → (r : Found) × (recordAt n s place ≡ gives r) × Next r
-  stands h = go (w .rest) refl (w .bytes) (w .flags)
-    where
-      go : (ks : List Kind) → w .rest ≡ ks → drop place s ≡ each bytesOf ks → Every (FlagBelow n) ks
-          → (r : Found) × (recordAt n s place ≡ gives r) × Next r
-      go [] e b f = absurd (omega (arith, length-drop place s, ap length b))
-      go (k ∷ ks) e b f =
-          let next = place + length (bytesOf k) in
-          (record { kind = k; next = next }, record-at n s place k (each bytesOf ks) b (f .0), record { others = ks; is = e; behind = refl })
+  module _ (h : place < length s) where
+    -- where bytes are left a record stands
+    stands : (r : Found) × Next r
+    stands = go (w .rest) refl (w .bytes) (w .flags)
+      where
+        go : (ks : List Kind) → w .rest ≡ ks → drop place s ≡ each bytesOf ks → Every (FlagBelow n) ks → (r : Found) × Next r
+        go [] e b f = absurd (omega (arith, length-drop place s, ap length b))
+        go (k ∷ ks) e b f =
+            let r : Found = record { kind = k; next = place + length (bytesOf k) } in
+            let q = record-at n s place k (each bytesOf ks) b (f .0) in
+            (r, record { read = found-read n s place r q; others = ks; is = e; behind = refl })
 
-  pub left-next : place < length s → (r : Found) → Read n s place r → Next r
-  left-next h r f = let d = stands h in subst Next (gives-same (sym (d .1) ∙ f .stands)) (d .2)
+    over : recordOver n s 2 place ≡ gives (stands .0)
+    over = over-two n s place (stands .0) (stands .1 .read .stands)
 
-  pub left-found : place < length s → (r : Reading) → readingOf r ≡ stepAt n s place → (tagOf the-type r ≡ 1) ⊎ (tagOf the-type r ≡ 2) → ⊥
-  left-found h (Reading.Found node) e o = ⊎-elim (λ q. omega arith) (λ q. omega arith) o
-  left-found h Reading.End e o = omega (arith, step-end n s place (sym e))
-  left-found h (Reading.Refused x) e o =
-      let p = sym (stands h .1) ∙ step-refused n s place (x .number) (x .place) (sym e) .1 in
-      let z : _≡_ {A = ℕ} 0 1 = cc in omega arith
+    pub left-next : (r : Found) → recordOver n s 2 place ≡ gives r → Next r
+    left-next r e = subst Next (gives-same (sym over ∙ e)) (stands .1)
+
+    pub left-found : {k p : ℕ} → ¬ (recordOver n s 2 place ≡ refuses k p)
+    left-found e = not-both (sym over ∙ e)
 
   pub left-end : length s ≤ place → Stored text at next out now
   left-end h = go (w .rest) (w .bytes) (w .whole)
@@ -124,12 +121,9 @@ module _ {n : ℕ} {s text : List ℕ} {at place next : ℕ} {out now : List ℕ
       go (k ∷ ks) b e = absurd (omega (arith, bytesOf-long k, length-drop place s, ap length b, length-append (bytesOf k) (each bytesOf ks)))
 
   module _ {r : Found} (d : Next r) where
-    ahead : place < r .next
-    ahead = omega (arith, bytesOf-long (r .kind), d .behind)
-
     -- what is left to print, from the next record on
     text-left : after place (w .rest) ≡ gap place ++ kindText (r .kind) ++ after (r .next) (d .others)
-    text-left = ap (after place) (d .is) ∙ after-more place (r .kind) (d .others) (r .next) ahead
+    text-left = ap (after place) (d .is) ∙ after-more place (r .kind) (d .others) (r .next) (d .read .after)
 
     room-left : Room text at out → Room (gap place ++ kindText (r .kind)) next now
     room-left h =

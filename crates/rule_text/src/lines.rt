@@ -1,6 +1,6 @@
 // The three lines of a rule, and the records of its expression, written at a place of a lent buffer.
+use expr::Found;
 use expr::Kind;
-use expr::Reading;
 ghost use Prim.Native.Nat.{_≤_};
 ghost use lib.ListN.{length};
 ghost use Rattle.rules.specs.Limits.{ruleFlags};
@@ -45,14 +45,15 @@ fn put_records(flags: usize, expression: &[u8], out: &mut [u8], at: usize) -> us
     let mut next = at;
     let mut place = 0;
     while place < expression.len() {
-        let answer = expr::step(flags, expression, place);
-        let Reading::Found(node) = answer else {
+        // No record takes more than two operands, and that each has its own is known already: the expression is well formed.
+        let answer = expr::record_at(flags, expression, 2, place);
+        let Found::Whole(read) = answer else {
             return next;
         };
-        let kind = node.kind;
+        let kind = read.kind;
         let start = put_gap(place, out, next);
         next = put_kind(kind, out, start);
-        place = node.next;
+        place = read.next;
     }
     next
 }

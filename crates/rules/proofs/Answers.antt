@@ -13,8 +13,9 @@ use Rattle.bits.specs.Bit.{_⊕_, digit}
 use Rattle.bits.specs.Range.{keep, same}
 use Rattle.rules.specs.Ascii.{ascii}
 use Rattle.rules.specs.Calls.{Listing, Compilation, Costs}
+use Rattle.rules.specs.Machine.{Node}
 use Rattle.rules.specs.Outcome.{Outcome, gives, refuses}
-use Rattle.rules.specs.Record.{Kind, Constant, Flag, And, Or, Xor, Not, Found}
+use Rattle.rules.specs.Record.{Kind, Constant, Flag, And, Or, Xor, Not}
 use Rattle.rules.specs.Text.{records}
 use Rattle.rules.specs.Tree.{Tree}
 use Rattle.rules.proofs.Computing.{computing}
@@ -85,14 +86,14 @@ kindBytes Or = ascii "OR"
 kindBytes Xor = ascii "XO"
 kindBytes Not = ascii "NO"
 
--- the record of these letters and this payload, and the next place
-unfoldable pub isRecord : String → ℕ → Outcome (Option Found) → Bool
+-- the record of these letters and this payload, with where its operands begin, 0 for none, and the next place
+unfoldable pub isRecord : String → ℕ → ℕ → ℕ → Outcome (Option Node) → Bool
 unfolding computing bytesOf kindBytes
-isRecord t p (gives none) = false
-isRecord t p (gives (some r)) = same (bytesOf t) (kindBytes (r .kind)) && eqb p (r .next)
-isRecord t p (refuses k q) = false
+isRecord t a b p (gives none) = false
+isRecord t a b p (gives (some r)) = same (bytesOf t) (kindBytes (r .kind)) && eqb a (r .first) && eqb b (r .second) && eqb p (r .next)
+isRecord t a b p (refuses k q) = false
 
-unfoldable pub isEnd : Outcome (Option Found) → Bool
+unfoldable pub isEnd : Outcome (Option Node) → Bool
 isEnd (gives none) = true
 isEnd (gives (some r)) = false
 isEnd (refuses k p) = false

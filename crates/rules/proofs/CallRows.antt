@@ -9,12 +9,12 @@ use native.Mathlib.Omega.{arith}
 use lib.Dec.{T, eqb}
 use lib.ListN.{length, getD}
 use Rattle.bits.specs.Range.{all, same}
-use Rattle.rules.specs.Calls.{transform, wayBack, rawCosting, compile, read, parse, evaluate, costing, cheaperOfTwo, examine}
+use Rattle.rules.specs.Calls.{transform, wayBack, rawCosting, compile, parse, evaluate, costing, cheaperOfTwo, examine}
 use Rattle.rules.specs.Outcome.{gives, refuses, refuse, _then_, written, front, left}
 use Rattle.rules.specs.Machine.{WellFormed}
 use Rattle.rules.specs.Record.{Constant, Flag, And, Or, Xor, Not, FlagBelow, mark}
 use Rattle.rules.specs.Tree.{VA, AN, NO}
-use Rattle.rules.proofs.Answers.{entriesOf, bytesOf, isRefusal, isNumber, isCompilation, isCosts, isRecord, isParsed, isGiven}
+use Rattle.rules.proofs.Answers.{entriesOf, bytesOf, isRefusal, isNumber, isCompilation, isCosts, isParsed, isGiven}
 use Rattle.rules.proofs.Computing.{computing}
 use Rattle.rules.proofs.Rows.{Row, marked-rows}
 
@@ -73,20 +73,7 @@ pub compile-rows : T (areCompiled marked-rows (1 ∷ 1 ∷ 3 ∷ 3 ∷ 3 ∷ 4 �
 unfolding areCompiled marked-rows
 compile-rows = tt
 
--- ---- reading: "its kind with payload and the next place"
-
-pub read-rows :
-    T (
-    isRecord "CO0" 3 (read 2 (bytesOf "CO0") 0)
-    && isRecord "CO1" 3 (read 2 (bytesOf "CO1") 0)
-    && isRecord "VA1" 6 (read 2 (bytesOf "VA0 VA1 AN") 3)
-    && isRecord "AN" 8 (read 2 (bytesOf "VA0 VA1 AN") 6)
-    && isRecord "OR" 2 (read 2 (bytesOf "OR") 0)
-    && isRecord "XO" 2 (read 2 (bytesOf "XO") 0)
-    && isRecord "NO" 5 (read 2 (bytesOf "VA0 NO CO1") 3)
-    )
-unfolding computing isRecord bytesOf
-read-rows = tt
+-- ---- reading (the reader's own rows are in ReadRows)
 
 -- C and O are hex 43 and 4F
 pub mark-rows : T (eqb (mark (bytesOf "CO1")) 0x434f)

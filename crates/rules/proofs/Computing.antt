@@ -16,8 +16,9 @@ use Rattle.rules.specs.Cleanup.{absorb, absorption, cheaper, contest, tu
 use Rattle.rules.specs.Coefficient.{coefficient, wordCount, packed, stray, wordOf, words}
 use Rattle.rules.specs.Console.{entryAt, entries}
 use Rattle.rules.specs.Form.{chain, halves, rawForm, termCost, rawCost}
-use Rattle.rules.specs.Machine.{binary, unary, push, finish, operands, run, made}
+use Rattle.rules.specs.Machine.{leaf, binary, unary, push, operands, recordTurn, turn as machineTurn, finish, run, made, nodeFrom}
 use Rattle.rules.specs.Monomial.{form, precedes, insert, ordered}
+use Rattle.rules.specs.Nodes.{nodes, sought}
 use Rattle.rules.specs.Polynomial.{product, polynomial}
 use Rattle.rules.specs.Record.{mark, marked, plain, loaded, recordAt}
 use Rattle.rules.specs.Stars.{starSetting, starValues}
@@ -30,7 +31,8 @@ unfolding bit within below turns fixed from keep all any same sum places word on
     wayBack listed listing terms rawCosting tableForm compiled compilation compile read parse evaluate costing smaller cheaperOf cheaperOfTwo
     differences judged examine family atop better greatest singles isFamily isPartial bestFamily partialAt partialOr meets covered stripped isCube
     cubeSaving bestCube withRest cubeAt commonCube absorb absorption cheaper contest turn cleanup coefficient wordCount packed stray wordOf words
-    entryAt entries chain halves rawForm termCost rawCost binary unary push finish operands run made form precedes insert ordered product polynomial
+    entryAt entries chain halves rawForm termCost rawCost leaf binary unary push operands recordTurn machineTurn finish run made nodeFrom
+    nodes sought form precedes insert ordered product polynomial
     mark marked plain loaded recordAt decimalTurn decimal records report firstOf flagsOf isLine printedAs printed value cost size depth write
     mentioned starSetting starValues evaluateStars wordTable
 computing = tt

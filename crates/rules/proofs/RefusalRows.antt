@@ -8,9 +8,9 @@ use Rattle.bits.specs.Range.{same}
 use Rattle.rules.specs.Ascii.{ascii}
 use Rattle.rules.specs.Calls.{transform, wayBack, listing, rawCosting, compile, read, evaluate, costing, cheaperOfTwo, examine}
 use Rattle.rules.specs.Limits.{packageLimit, packageFlags, badRuleMark, pastEnd, strayTableBit}
-use Rattle.rules.specs.Machine.{run}
+use Rattle.rules.specs.Machine.{Operand, run}
 use Rattle.rules.specs.Tree.{VA}
-use Rattle.rules.proofs.Answers.{entriesOf, bytesOf, isRefusal, isNumber, isList, isListing, isCompilation, isParsed, isRecord, isEnd}
+use Rattle.rules.proofs.Answers.{entriesOf, bytesOf, isRefusal, isNumber, isList, isListing, isCompilation, isParsed, isEnd}
 use Rattle.rules.proofs.Computing.{computing}
 
 -- ---- row 1: "above 16 (transform, way back, listing); above 6 (all others)"; what the limit lets pass is refused by a later row, or answered
@@ -107,14 +107,18 @@ unfoldable pub refusedBy : ℕ → ℕ → ℕ → List ℕ → Bool
 unfolding computing isRefusal
 refusedBy n k p s = isRefusal k p (evaluate n s 0) && isRefusal k p (costing n s) && isRefusal k p (examine n (0 ∷ 0 ∷ 0 ∷ 0 ∷ []) s)
 
+-- the stack after `VA0` at byte 0
+abbrev pub flagFirst : List Operand
+flagFirst = record { tree = VA 0; start = 0 } ∷ []
+
 -- "a 386th record begins", its first byte: where no more records may begin, one that does is refused, also where it is no record, and the end is
 -- still the end. Document 01's unmarked examples have the 385th and the 386th (laws, LongRows).
 pub record-refusals :
     T (
-    isRefusal 9 3 (run 0 1 (bytesOf "VA0 NO") 3 (VA 0 ∷ []))
-    && isRefusal 9 3 (run 0 1 (bytesOf "VA0 ?") 3 (VA 0 ∷ []))
-    && isParsed "VA0" (run 0 1 (bytesOf "VA0") 3 (VA 0 ∷ []))
-    && isParsed "VA0 NO" (run 1 1 (bytesOf "VA0 NO") 3 (VA 0 ∷ []))
+    isRefusal 9 3 (run 0 1 (bytesOf "VA0 NO") 3 flagFirst)
+    && isRefusal 9 3 (run 0 1 (bytesOf "VA0 ?") 3 flagFirst)
+    && isParsed "VA0" (run 0 1 (bytesOf "VA0") 3 flagFirst)
+    && isParsed "VA0 NO" (run 1 1 (bytesOf "VA0 NO") 3 flagFirst)
     )
 unfolding computing bytesOf isRefusal isParsed
 record-refusals = tt
@@ -176,21 +180,6 @@ pub order-of-records :
     )
 unfolding computing refusedBy bytesOf
 order-of-records = tt
-
--- ---- the reader refuses "by row 1, 6 or 7"; "if no byte is left at that place, it answers the end"
-
-pub reader-refusals :
-    T (
-    isRefusal 6 3 (read 2 (bytesOf "VA0 V") 3)
-    && isRefusal 6 1 (read 2 (bytesOf "VA0") 1)
-    && isRefusal 7 3 (read 2 (bytesOf "VA0 VA2") 3)
-    && isRefusal 7 0 (read 2 (ascii "CO") 0)
-    && isRecord "AN" 2 (read 2 (bytesOf "AN") 0)
-    && isEnd (read 2 (bytesOf "VA0") 3)
-    && isEnd (read 2 (bytesOf "VA0") 4)
-    )
-unfolding computing isRefusal isRecord isEnd bytesOf
-reader-refusals = tt
 
 -- ---- rows 12 and 13: "differs from the table", "smallest such setting"; "cost above raw cost", "the cost": of the last, 4 with its discount
 

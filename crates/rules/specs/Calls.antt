@@ -8,14 +8,14 @@
 --   listing n ws room, terms a           == the constant and the monomials in their order, and the raw form's terms of such a listing
 --   rawCosting n ws                      == the raw form's cost
 --   compile n table room                 == the compiler: the bytes of `compiled n table` with their counts and costs
---   read n s p, parse n s                == the record at a place, and the tree of all records
+--   read n s at, parse n s               == the record at a place, with where its operands begin, and the tree of all records
 --   evaluate n s at, costing n s         == the value at a setting, and cost, size and depth
 --   evaluateStars n ws s                 == the values for 64 stars
 --   cheaperOfTwo n a b                   == the cheaper of two expressions, or nothing; cheaperOf chooses alike of whatever stands for the two
 --   examine n table s                    == the examiner: the cost, or the first refusal
 use mathlib.Core.Bool.{Bool, true, false, not, _&&_, _||_}
 use mathlib.Core.List.{List, [], _∷_, map}
-use mathlib.Core.Option.{Option, none, some}
+use mathlib.Core.Option.{Option}
 use Prim.Native.Nat.{ℕ, _^_}
 use lib.Dec.{ltb, leb, eqb}
 use lib.ListN.{length}
@@ -25,11 +25,10 @@ use Rattle.rules.specs.Cleanup.{cleanup}
 use Rattle.rules.specs.Coefficient.{coefficient, wordCount, packed, stray, words}
 use Rattle.rules.specs.Form.{rawCost}
 use Rattle.rules.specs.Limits.{formFlags, ruleFlags, tooManyFlags, shortTable, shortCoefficients, strayCoefficient, shortOutput}
-use Rattle.rules.specs.Limits.{badSetting, shortStars, differs, tooCostly}
-use Rattle.rules.specs.Machine.{made}
+use Rattle.rules.specs.Limits.{badSetting, shortStars, differs, tooCostly, recordLimit}
+use Rattle.rules.specs.Machine.{Node, made, nodeFrom}
 use Rattle.rules.specs.Monomial.{form, constant, monomials, on, ordered}
 use Rattle.rules.specs.Outcome.{Outcome, gives, refuses, refuse, _then_}
-use Rattle.rules.specs.Record.{Found, recordAt}
 use Rattle.rules.specs.Stars.{starValues}
 use Rattle.rules.specs.Table.{settings, entry, complete}
 use Rattle.rules.specs.Tree.{Tree, value, cost, size, depth, write}
@@ -121,12 +120,11 @@ compile n table room =
 
 -- ---- reading, evaluation, costing
 
--- "The reader takes n, bytes and a place and answers one record: its kind with payload and the next place, or a refusal by row 1, 6 or 7; if no byte
--- is left at that place, it answers the end.": the end is none
-unfoldable pub read : ℕ → List ℕ → ℕ → Outcome (Option Found)
-read n s p =
-    refuse (ltb ruleFlags n) tooManyFlags 0
-    (elim (ltb p (length s)) [ true ↦ recordAt n s p then (λ r. gives (some r)) | false ↦ gives none ])
+-- "The reader takes n, bytes and a place and answers one record: its kind with payload and the next place, or a refusal"; "if no byte is left at
+-- that place, it answers the end", which is none. Request 5 adds "the first byte of each operand" and has the records read "from byte 0 by rows 9, 6,
+-- 7, 8".
+unfoldable pub read : ℕ → List ℕ → ℕ → Outcome (Option Node)
+read n s at = refuse (ltb ruleFlags n) tooManyFlags 0 (nodeFrom recordLimit n s at 0 [])
 
 -- an expression's tree
 unfoldable pub parse : ℕ → List ℕ → Outcome Tree

@@ -11,6 +11,7 @@ pub mod Form
 pub mod Cleanup
 pub mod Record
 pub mod Machine
+pub mod Nodes
 pub mod Calls
 pub mod Console
 pub mod Text

@@ -1,6 +1,7 @@
 -- One record of an expression's bytes.
 --   Kind             == what a record is, with its payload
 --   FlagBelow n k    == a record of the kind names no flag at n or above
+--   operandCount k   == how many operands a record of the kind has
 --   recordAt n s p   == the record that begins at byte p of s with n flags: its kind and the next place, or the refusal of its mark or payload
 use mathlib.Core.Bool.{Bool, true, false}
 use mathlib.Core.List.{List}
@@ -24,6 +25,15 @@ FlagBelow n And = Unit
 FlagBelow n Or = Unit
 FlagBelow n Xor = Unit
 FlagBelow n Not = Unit
+
+-- "`AN`, `OR`, `XO`: two operands"; "`NO`: one operand"
+abbrev pub operandCount : Kind → ℕ
+operandCount (Constant b) = 0
+operandCount (Flag i) = 0
+operandCount And = 2
+operandCount Or = 2
+operandCount Xor = 2
+operandCount Not = 1
 
 pub record Found : Type 0 where
   pub kind : Kind

@@ -4,7 +4,7 @@ use mathlib.Core.List.{[], _∷_}
 use mathlib.Core.Path.{refl, ap₂}
 use Prim.Native.Nat.{ℕ}
 use borrow.Author.Needs.{needs}
-use Rattle.expr.specs.Answers.{readingOf}
+use Rattle.reader.specs.Answers.{readingOf}
 use Rattle.answer_block.proofs.Answered.{told-as, answer-gives, answer-refuses}
 use Rattle.answer_block.specs.Numbers.{reading}
 use Rattle.c_expressions.proofs.read.Statement.{statement}
@@ -12,13 +12,13 @@ use Rattle.c_expressions.proofs.read.Tie as tie
 
 returns : tie.Need-returns
 returns c =
-    let r = c .before .before .three in
+    let r = c .before .before .five in
     let loaded = c .before .before .before in
     let kind = loaded .before in
     let told = kind .before .before .before in
     let node = told .read2 .given .0 .0 in
     let is = told-as readingOf (told .read2 .given .1) (told .before .before .read .ensures) in
-    let same = ap₂ (λ (k p : ℕ). k ∷ p ∷ node .next ∷ []) (kind .kind-number .ensures) (loaded .payload .ensures) in
+    let same = ap₂ (λ (k p : ℕ). k ∷ p ∷ node .next ∷ node .first ∷ node .second ∷ []) (kind .kind-number .ensures) (loaded .payload .ensures) in
     answer-gives reading _ is (r .ensures .0) (r .ensures .1) same
 
 returns-2 : tie.Need-returns-2

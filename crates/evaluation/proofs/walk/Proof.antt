@@ -1,96 +1,121 @@
--- `evaluation::walk` meets its contract. The loop's invariant: the number is that of the machine's stack. The measure is the number of records that
--- may still begin. Each way out is one law of Packed or of expr's Turn and Walk, and a full stack is answered by the walk over words.
-use mathlib.Core.Path.{sym, ap, _∙_}
+-- `evaluation::walk` meets its contract. The loop's invariant: the number is that of the machine's stack, and the array holds where its operands
+-- begin. The measure is the number of records that may still begin. Each way out is one law of Packed or of reader's Turn, and a full stack is
+-- answered by the walk over words.
+use mathlib.Core.Path.{refl, sym, _∙_}
 use Prim.Native.Nat.{_-_}
 use native.Mathlib.Omega.{arith}
 use denote.Ref.{now}
 use borrow.Author.Needs.{needs}
 use Rattle.rules.specs.Limits.{recordLimit}
 use Rattle.expr.specs.Answers.{kindOf}
-use Rattle.expr.proofs.Reader.{Read, read-index}
-use Rattle.expr.proofs.Turn.{turn-found, turn-end, turn-refused}
-use Rattle.expr.proofs.Walk.{walk-many}
-use Rattle.evaluation.specs.Answers.{evaluationOf}
-use Rattle.evaluation.proofs.Packed.{Packing, packing-start, packing-step, packing-few, packing-end}
+use Rattle.expr.proofs.ReadRecord.{read-index}
+use Rattle.reader.proofs.Turn.{Stepped, turn-found, turn-end, turn-refused}
+use Rattle.reader.proofs.Walk.{walk-fits}
+use Rattle.evaluation.proofs.Packed.{Packing, packing-start, packing-low, packing-reached, packing-step, packing-end}
 use Rattle.evaluation.proofs.Values.{evaluated-refused}
 use Rattle.evaluation.proofs.walk.Statement.{statement}
 use Rattle.evaluation.proofs.walk.Tie as tie
 
 abbrev Inv-loop : tie.InvT-loop
-Inv-loop flags bytes setting stack₀ place₀ count₀ stack place count = Packing flags bytes setting count place stack
+Inv-loop flags bytes setting stack₀ starts₀ depth₀ place₀ count₀ stack starts depth place count =
+    Packing flags bytes setting count place stack starts depth
 
 abbrev μ-loop : tie.MeasureT-loop
-μ-loop flags bytes setting stack₀ place₀ count₀ stack place count = recordLimit - count
+μ-loop flags bytes setting stack₀ starts₀ depth₀ place₀ count₀ stack starts depth place count = recordLimit - count
 
 loop-holds : tie.Need-loop-holds Inv-loop μ-loop
 loop-holds c =
     let a = c .before .args in
-    packing-start (a .flags) (now (a .bytes)) (a .setting)
+    packing-start (a .flags) (now (a .bytes)) (a .setting) _ refl
+
+-- where the call began
+abbrev start : tie.At-loop Inv-loop μ-loop → tie.Start Inv-loop μ-loop
+start c = c .before .before
 
 returns : tie.Need-returns Inv-loop μ-loop
 returns c = c .walk-lane .ensures
 
--- where a turn with a record began, and where the call did
-abbrev turn : tie.After-answer Inv-loop μ-loop → tie.At-loop Inv-loop μ-loop
-turn c = c .before .before .before .before .before
+step-requires : tie.Need-step-requires Inv-loop μ-loop
+step-requires c κs = let l = c .before .before in packing-reached (l .loop .inv) (start l .pre .0) (c .before .if1 .left)
 
-abbrev start : tie.At-loop Inv-loop μ-loop → tie.Start Inv-loop μ-loop
-start c = c .before .before
+-- where a turn found room for one more value, from the reader's answer
+abbrev roomy : tie.After-step Inv-loop μ-loop → tie.Else1 Inv-loop μ-loop
+roomy c = c .before .before
 
--- the record that the reader found
-found : (c : tie.After-answer Inv-loop μ-loop)
-    → (let a = start (turn c) .args in
-    let node = c .answer .given .0 .0 in
-    Read (a .flags) (now (a .bytes)) (turn c .loop .place) (record { kind = kindOf (node .kind); next = node .next }))
-found c = turn-found (c .answer .given .1) (c .before .before .step .ensures)
+abbrev turn : tie.After-step Inv-loop μ-loop → tie.At-loop Inv-loop μ-loop
+turn c = roomy c .before
 
 returns-2 : tie.Need-returns-2 Inv-loop μ-loop
 returns-2 c =
-    let l = c .before .before .before .before .before .before .loop in
-    let r = c .before .before .before .step in
-    let past = turn-end (l .inv .walk) (r .result) (c .before .before .match .keys2) (c .before .match2 .keys2) (r .ensures) in
-    c .finished .ensures ∙ sym (packing-end (l .inv) past)
+    let r = c .before .before .before in
+    let l = turn r in
+    let w = l .loop .inv in
+    let past =
+    turn-end (w .walk) (start l .pre .0) (r .step .result) (c .before .before .match .keys2) (c .before .match2 .keys2) (r .step .ensures) in
+    c .finished .ensures ∙ sym (packing-end w past)
 
 returns-3 : tie.Need-returns-3 Inv-loop μ-loop
 returns-3 c =
-    let l = c .before .before .before .before .before .before .before .loop in
-    let told = c .before .before .before .before .step .ensures in
-    sym (evaluated-refused _ _ _ _ _ (turn-refused (l .inv .walk) (c .before .answer2 .given .1) told (omega arith)))
+    let r = c .before .before .before .before in
+    let l = turn r in
+    sym (evaluated-refused _ _ _ _ _ (turn-refused (l .loop .inv .walk) (start l .pre .0) (c .before .answer2 .given .1) (r .step .ensures)))
+
+-- the record that the reader found
+found : (c : tie.After-answer Inv-loop μ-loop)
+    → (let l = turn (c .before .before) in
+    let a = start l .args in
+    let node = c .answer .given .0 .0 in
+    Stepped (a .flags) (now (a .bytes)) (l .loop .depth) (l .loop .place) (l .loop .count) (record { kind = kindOf (node .kind); next = node .next }))
+found c =
+    let l = turn (c .before .before) in
+    turn-found (l .loop .inv .walk) (start l .pre .0) (c .answer .given .1) (c .before .before .step .ensures)
 
 after-requires : tie.Need-after-requires Inv-loop μ-loop
-after-requires c κs = (read-index (found (c .before)) 64 (omega arith), omega arith)
+after-requires c κs =
+    let a = c .before in
+    (read-index (found a .stands) 64 (omega (arith, start (turn (a .before .before)) .pre .0)), roomy (a .before .before) .if1 .left)
 
-returns-4 : tie.Need-returns-4 Inv-loop μ-loop
-returns-4 c =
-    let s = c .before .before in
-    let a = s .before .before in
-    let w = turn a .loop .inv in
-    let left = s .after .ensures (w .walk .stack) (w .packs) in
-    ap evaluationOf (c .refused .ensures)
-    ∙ sym (evaluated-refused _ _ _ _ _ (packing-few w (found a) (omega arith) _ left (c .before .if2 .taken)))
+-- where the record was found, from where its arity is known
+abbrev read : tie.After-arity Inv-loop μ-loop → tie.After-answer Inv-loop μ-loop
+read c = c .before .before .before
+
+sub-base : tie.Need-sub-base Inv-loop μ-loop
+sub-base c = omega (arith, c .arity .ensures, found (read c) .enough)
+
+keep-requires : tie.Need-keep-requires Inv-loop μ-loop
+keep-requires c κs =
+    let a = read (c .before) in
+    let e = roomy (a .before .before) in
+    let w = e .before .loop .inv in
+    (omega (arith, packing-low w (e .if1 .left), w .room), walk-fits (w .walk))
+
+-- where the record was found, from where it is kept
+abbrev kept : tie.After-starts3 Inv-loop μ-loop → tie.After-arity Inv-loop μ-loop
+kept c = c .before .before .before
 
 loop-again : tie.Need-loop-again Inv-loop μ-loop
 loop-again c =
-    let s = c .before in
-    let a = s .before .before in
-    let w = turn a .loop .inv in
-    let left = s .after .ensures (w .walk .stack) (w .packs) in
-    packing-step w (found a) (omega arith) _ left (omega arith)
+    let k = kept c in
+    let a = read k in
+    let e = roomy (a .before .before) in
+    let w = e .before .loop .inv in
+    rw (c .before .keep .ensures)
+    (packing-step w (e .if1 .left) (found a) _ (omega (arith, k .arity .ensures, found a .enough)) _ (k .before .after .ensures))
 
-returns-5 : tie.Need-returns-5 Inv-loop μ-loop
-returns-5 c =
-    let l = c .before .before .before .loop in
-    ap evaluationOf (c .refused2 .ensures)
-    ∙ sym (evaluated-refused _ _ _ _ _ (walk-many (l .inv .walk) (omega arith) (c .before .if3 .taken)))
+add-depth : tie.Need-add-depth Inv-loop μ-loop
+add-depth c =
+    let a = read (kept c) in
+    omega (arith, turn (a .before .before) .loop .inv .walk .high, found a .more)
 
-returns-6 : tie.Need-returns-6 Inv-loop μ-loop
-returns-6 c =
-    let l = c .before .before .before .loop in
-    c .finished2 .ensures ∙ sym (packing-end (l .inv) (c .before .if3 .left))
+add-count : tie.Need-add-count Inv-loop μ-loop
+add-count c = omega (arith, found (read (kept c)) .more)
+
+loop-less : tie.Need-loop-less Inv-loop μ-loop
+loop-less c = omega (arith, found (read (kept c)) .more)
 
 pub walk-spec : {M : Type 1} → statement M
 walk-spec =
     tie.close
-    (tie.spec Inv-loop μ-loop loop-holds (λ c κs. search needs) returns (λ c κs. search needs) (λ c. search needs) (λ c. search needs)
-    (λ c κs. search needs) returns-2 returns-3 after-requires (λ c κs. search needs) returns-4 (λ c. search needs) (λ c. search needs) loop-again
-    (λ c κs. search needs) returns-5 (λ c κs. search needs) returns-6)
+    (tie.spec Inv-loop μ-loop loop-holds (λ c κs. search needs) returns (λ c. search needs) step-requires (λ c. search needs) (λ c. search needs)
+    (λ c κs. search needs) returns-2 returns-3 after-requires (λ c κs. search needs) sub-base (λ c. search needs) keep-requires add-depth add-count
+    loop-less loop-again)

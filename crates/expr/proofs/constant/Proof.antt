@@ -10,9 +10,6 @@ use Rattle.expr.specs.Inner.{constantAt}
 use Rattle.expr.proofs.constant.Statement.{statement}
 use Rattle.expr.proofs.constant.Tie as tie
 
-sub-if1 : tie.Need-sub-if1
-sub-if1 c = search needs
-
 refused-requires : tie.Need-refused-requires
 refused-requires c κs = search needs
 
@@ -54,7 +51,6 @@ pub constant-spec : {M : Type 1} → statement M
 constant-spec =
     tie.close
     (tie.spec
-    sub-if1
     refused-requires
     returns
     add-payload

@@ -11,9 +11,6 @@ use Rattle.expr.specs.Inner.{flagAt}
 use Rattle.expr.proofs.variable.Statement.{statement}
 use Rattle.expr.proofs.variable.Tie as tie
 
-sub-if1 : tie.Need-sub-if1
-sub-if1 c = search needs
-
 refused-requires : tie.Need-refused-requires
 refused-requires c κs = search needs
 
@@ -58,7 +55,6 @@ pub variable-spec : {M : Type 1} → statement M
 variable-spec =
     tie.close
     (tie.spec
-    sub-if1
     refused-requires
     returns
     add-payload

@@ -2,8 +2,8 @@
 use mathlib.Core.Path.{_≡_, subst}
 use denote.Ref.{now}
 use borrow.Author.Needs.{needs}
+use Rattle.rules.specs.Record.{operandCount}
 use Rattle.expr.specs.Answers.{kindOf}
-use Rattle.expr.specs.Inner.{arityOf}
 use Rattle.expr.specs.declared.Kind.{Kind}
 use Rattle.expr_cost.specs.Inner.{Ready}
 use Rattle.expr_cost.proofs.push.Statement.{statement}
@@ -15,10 +15,10 @@ start c = c .before .before
 
 -- what the function requires, once the kind is told
 ready : (c : tie.After-slice-known2) (k : Kind) → start c .args .kind ≡ k
-    → (let a = start c .args in Ready (arityOf (kindOf k)) (now (a .stack)) (now (a .ors)) (a .depth) (a .saved))
+    → (let a = start c .args in Ready (operandCount (kindOf k)) (now (a .stack)) (now (a .ors)) (a .depth) (a .saved))
 ready c k e =
     let a = start c .args in
-    subst (λ (x : Kind). Ready (arityOf (kindOf x)) (now (a .stack)) (now (a .ors)) (a .depth) (a .saved)) e (start c .pre)
+    subst (λ (x : Kind). Ready (operandCount (kindOf x)) (now (a .stack)) (now (a .ors)) (a .depth) (a .saved)) e (start c .pre)
 
 binary-requires : tie.Need-binary-requires
 binary-requires c κs = ready (c .before .before .before .before) _ (c .before .before .enum-told3 .given .1)

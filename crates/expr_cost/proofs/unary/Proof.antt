@@ -7,8 +7,8 @@ use Rattle.expr_cost.proofs.unary.Tie as tie
 
 add-stack : tie.Need-add-stack
 add-stack c =
-    let s = c .before .before in
-    omega (arith, s .pre .3 (s .args .depth - 1) (omega arith))
+    let s = c .before in
+    omega (arith, s .pre .4 (s .args .depth - 1) (omega arith))
 
 pub unary-spec : {M : Type 1} → statement M
 unary-spec =

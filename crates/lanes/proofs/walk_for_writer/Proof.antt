@@ -5,10 +5,11 @@ use Rattle.lanes.proofs.walk_for_writer.Statement.{statement}
 use Rattle.lanes.proofs.walk_for_writer.Tie as tie
 
 returns : tie.Need-returns
-returns c = rw (c .before .attempt .given .1) at (c .before .before .before .before .before .walk-on .ensures)
+returns c = rw (c .before .attempt .given .1) at (c .before .before .before .before .before .before .walk-on .ensures)
 
 pub walk-for-writer-spec : {M : Type 1} → statement M
 walk-for-writer-spec =
     tie.close
-    (tie.spec (λ c. search needs) (λ c. search needs) (λ c κs. search needs) (λ c. search needs) (λ c. search needs) (λ c κs. search needs) returns
+    (tie.spec (λ c. search needs) (λ c. search needs) (λ c. search needs) (λ c κs. search needs) (λ c. search needs) (λ c. search needs)
+    (λ c κs. search needs) returns
     (λ c. search needs))

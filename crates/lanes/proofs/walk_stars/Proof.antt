@@ -4,10 +4,11 @@ use Rattle.lanes.proofs.walk_stars.Statement.{statement}
 use Rattle.lanes.proofs.walk_stars.Tie as tie
 
 returns : tie.Need-returns
-returns c = rw (c .before .attempt .given .1) at (c .before .before .before .before .before .walk-on .ensures)
+returns c = rw (c .before .attempt .given .1) at (c .before .before .before .before .before .before .walk-on .ensures)
 
 pub walk-stars-spec : {M : Type 1} → statement M
 walk-stars-spec =
     tie.close
-    (tie.spec (λ c. search needs) (λ c. search needs) (λ c κs. search needs) (λ c. search needs) (λ c. search needs) (λ c κs. search needs) returns
+    (tie.spec (λ c. search needs) (λ c. search needs) (λ c. search needs) (λ c κs. search needs) (λ c. search needs) (λ c. search needs)
+    (λ c κs. search needs) returns
     (λ c. search needs))

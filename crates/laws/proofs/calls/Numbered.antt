@@ -19,9 +19,8 @@ use Rattle.rules.specs.Coefficient.{wordCount, stray}
 use Rattle.rules.specs.Limits.{formFlags, ruleFlags}
 use Rattle.rules.specs.Machine.{made}
 use Rattle.rules.specs.Outcome.{Outcome, gives, refuses}
-use Rattle.rules.specs.Record.{recordAt}
 use Rattle.rules.specs.Table.{complete}
-use Rattle.laws.proofs.calls.Refused.{By, by-row, by-step, by-choice, record-by, made-by, examined-by}
+use Rattle.laws.proofs.calls.Refused.{By, by-row, by-step, made-by, read-by, examined-by}
 
 abbrev pub Positive : ℕ → ℕ → Type 0
 Positive k p = 0 < k
@@ -71,12 +70,9 @@ pub numbered-compile : (n : ℕ) (table : List ℕ) (room : ℕ) → Numbered (c
 unfolding compile
 numbered-compile n table room = table-row ruleFlags n table _ (room-row room _ _ tt)
 
-pub numbered-read : (n : ℕ) (s : List ℕ) (p : ℕ) → Numbered (read n s p)
+pub numbered-read : (n : ℕ) (s : List ℕ) (at : ℕ) → Numbered (read n s at)
 unfolding read
-numbered-read n s p =
-    by-row Positive (ltb ruleFlags n) _ _ _ (omega arith)
-    (by-choice Positive (ltb p (length s)) _ _
-    (by-step Positive (recordAt n s p) _ (record-by Positive n s p (omega arith) (omega arith)) (λ r. tt)) tt)
+numbered-read n s at = by-row Positive (ltb ruleFlags n) _ _ _ (omega arith) (read-by Positive n s (omega arith) at (omega arith))
 
 pub numbered-costing : (n : ℕ) (s : List ℕ) → Numbered (costing n s)
 unfolding costing parse

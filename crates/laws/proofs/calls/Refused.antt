@@ -5,6 +5,7 @@
 --   by-turn                        == a turn of a reader, where bytes are left and where none is
 --   record-by                      == a record refuses by 6 and 7 at its own place
 --   ReadingBy P len, made-by       == P holds of 6 to 9 at every place before len and of 10 at len; so an expression of len bytes refuses by P
+--   read-by                        == and so does the reader at a place where P holds of 8
 --   judged-by, examined-by         == a verdict refuses by 12 and 13; so do an expression's reading and its verdict together
 --   PlaceWithin len k p, examine-places == unless k is 12 or 13, p is at most len; so it is where the examiner refuses an expression of len bytes
 use mathlib.Core.Bool.{Bool, true, false, not}
@@ -14,13 +15,13 @@ use mathlib.Core.Option.{Option, none, some}
 use mathlib.Core.Path.{_≡_, refl, subst}
 use Prim.Native.Nat.{ℕ, zero, suc, _+_, _≤_, _<_}
 use native.Mathlib.Omega.{arith}
-use lib.Dec.{ltb}
+use lib.Dec.{ltb, eqb}
 use lib.ListN.{length}
 use borrow.Author.Tests.{ltb-true}
 use Rattle.rules.specs.Calls.{withTable, tableForm, differences, judged, examine}
 use Rattle.rules.specs.Form.{rawCost}
 use Rattle.rules.specs.Limits.{ruleFlags, recordLimit, badMark, badPayload, fewOperands, manyRecords, badEnd, differs, tooCostly}
-use Rattle.rules.specs.Machine.{push, finish, operands, run, made}
+use Rattle.rules.specs.Machine.{Operand, Left, Turn, push, operands, recordTurn, turn, onward, finish, run, made, nodeFrom}
 use Rattle.rules.specs.Outcome.{Outcome, gives, refuses, refuse, _then_}
 use Rattle.rules.specs.Record.{Kind, marked, plain, loaded, recordAt}
 use Rattle.rules.specs.Table.{complete}
@@ -82,26 +83,50 @@ module _ (P : ℕ → ℕ → Type 0) where
 
   -- ---- expressions
 
-  finish-by : (len : ℕ) (ts : List Tree) → P badEnd len → By P (finish len ts)
+  finish-by : (len : ℕ) (os : List Operand) → P badEnd len → By P (finish len os)
   unfolding finish
   finish-by len [] h = h
-  finish-by len (t ∷ []) h = tt
-  finish-by len (t ∷ u ∷ ts) h = h
+  finish-by len (o ∷ []) h = tt
+  finish-by len (o ∷ u ∷ os) h = h
 
-  operands-by : (p : ℕ) (o : Option (List Tree)) → P fewOperands p → By P (operands p o)
+  operands-by : (p : ℕ) (o : Option Left) → P fewOperands p → By P (operands p o)
   unfolding operands
   operands-by p none h = h
-  operands-by p (some ts) h = tt
+  operands-by p (some l) h = tt
+
+  -- a turn's answer, and what comes after it
+  onward-by : {A : Type 0} (end : Outcome A) (next : Turn → Outcome A) (o : Option Turn) → By P end → ((t : Turn) → By P (next t))
+      → By P (onward end next o)
+  onward-by end next none h r = h
+  onward-by end next (some t) h r = r t
 
   module _ (n : ℕ) (s : List ℕ) (by : ReadingBy P (length s)) where
-    run-by : (k p : ℕ) (ts : List Tree) → By P (run k n s p ts)
-    unfolding run
-    run-by zero p ts = by-turn p (length s) _ _ (by .many p) (finish-by (length s) ts (by .end))
-    run-by (suc k) p ts =
+    turn-by : (k p : ℕ) (os : List Operand) → By P (turn k n s p os)
+    unfolding turn recordTurn
+    turn-by zero p os = by-turn p (length s) _ _ (by .many p) tt
+    turn-by (suc k) p os =
         by-turn p (length s) _ _
         (λ h. by-step (recordAt n s p) _ (record-by n s p (by .mark p h) (by .payload p h))
-        (λ r. by-step (operands p (push (r .kind) ts)) _ (operands-by p (push (r .kind) ts) (by .few p h)) (λ us. run-by k (r .next) us)))
-        (finish-by (length s) ts (by .end))
+        (λ r. by-step (operands p (push (r .kind) p os)) _ (operands-by p (push (r .kind) p os) (by .few p h)) (λ l. tt))) tt
+
+    run-by : (k p : ℕ) (os : List Operand) → By P (run k n s p os)
+    unfolding run
+    run-by zero p os = by-step (turn zero n s p os) _ (turn-by zero p os) (λ o. finish-by (length s) os (by .end))
+    run-by (suc k) p os =
+        by-step (turn (suc k) n s p os) _ (turn-by (suc k) p os)
+        (λ o. onward-by _ _ o (finish-by (length s) os (by .end)) (λ t. run-by k (t .node .next) (t .stack)))
+
+    node-by : (at : ℕ) → P fewOperands at → (k p : ℕ) (os : List Operand) → By P (nodeFrom k n s at p os)
+    unfolding nodeFrom
+    node-by at h zero p os =
+        by-row (ltb at p) fewOperands at _ h (by-step (turn zero n s p os) _ (turn-by zero p os) (λ o. tt))
+    node-by at h (suc k) p os =
+        by-row (ltb at p) fewOperands at _ h
+        (by-step (turn (suc k) n s p os) _ (turn-by (suc k) p os)
+        (λ o. onward-by _ _ o tt (λ t. by-choice (eqb at p) _ _ tt (node-by at h k (t .node .next) (t .stack)))))
+
+    pub read-by : (at : ℕ) → P fewOperands at → By P (nodeFrom recordLimit n s at 0 [])
+    read-by at h = node-by at h recordLimit 0 []
 
     pub made-by : By P (made n s)
     unfolding made

@@ -1,6 +1,7 @@
 -- What the reader answers at a place: where a whole record stands it is that record, and what is answered stood there. That its bytes are the
 -- record's wants a byte below 256, since a mark is two letters as one number; a slice of bytes always meets it. Beyond that it assumes nothing.
---   bytesOf k, bytesOf-long     == the bytes of a record, two at least
+--   bytesOf k                   == the bytes of a record
+--   bytesOf-long, bytesOf-short == two at least, and at most three
 --   drop-past                   == what stands behind the bytes that the rest begins with
 --   record-at                   == a whole record is read where the rest begins with it
 --   Read, record-read           == what is read stood there, whole and with a flag below n; its bytes too, if the one behind the first is below 256
@@ -38,6 +39,15 @@ bytesOf-long And = omega arith
 bytesOf-long Or = omega arith
 bytesOf-long Xor = omega arith
 bytesOf-long Not = omega arith
+
+pub bytesOf-short : (k : Kind) → length (bytesOf k) ≤ 3
+unfolding bytesOf ascii
+bytesOf-short (Constant b) = omega arith
+bytesOf-short (Flag i) = omega arith
+bytesOf-short And = omega arith
+bytesOf-short Or = omega arith
+bytesOf-short Xor = omega arith
+bytesOf-short Not = omega arith
 
 pub drop-past : (s : List ℕ) (p : ℕ) (x b : List ℕ) → drop p s ≡ x ++ b → drop (p + length x) s ≡ b
 drop-past s p x b e = sym (drop-drop (length x) p s) ∙ ap (drop (length x)) e ∙ drop-append-seam x b

@@ -16,54 +16,60 @@ use Rattle.bits.specs.Range.{Below}
 use Rattle.bits.proofs.Below.{below-getD}
 use Rattle.bits.proofs.Every.{Every}
 use Rattle.rules.specs.Limits.{recordLimit}
-use Rattle.rules.specs.Machine.{finish, run, made, WellFormed}
+use Rattle.rules.specs.Machine.{Operand, Turn, finish, run, made, WellFormed}
 use Rattle.rules.specs.Outcome.{gives}
 use Rattle.rules.specs.Tree.{Tree, AN, size, write, FlagsBelow}
 use Rattle.laws.proofs.reading.FlagsBelow.{flags-some}
 use Rattle.laws.proofs.calls.Outcome.{gives-same, not-both}
 use Rattle.laws.proofs.reading.ReadBack.{run-whole, made-write}
 use Rattle.laws.proofs.reading.RecordAt.{record-read}
-use Rattle.laws.proofs.reading.Run.{run-end, run-full, run-gives}
-use Rattle.laws.proofs.reading.Stack.{writes, sizes, pushed}
+use Rattle.laws.proofs.reading.Run.{Taken, turn-taken, run-end, run-gives}
+use Rattle.laws.proofs.reading.Stack.{trees, writes, sizes, pushed}
 
 -- the stack's bytes and the rest are those of t, in at most k further records
-pub record Ran (k n : ℕ) (s : List ℕ) (p : ℕ) (ts : List Tree) (t : Tree) : Type 0 where
-  pub bytes : writes ts ++ drop p s ≡ write t
-  pub records : size t ≤ sizes ts + k
-  pub flags : Every (FlagsBelow n) ts → FlagsBelow n t
+pub record Ran (k n : ℕ) (s : List ℕ) (p : ℕ) (os : List Operand) (t : Tree) : Type 0 where
+  pub bytes : writes (trees os) ++ drop p s ≡ write t
+  pub records : size t ≤ sizes (trees os) + k
+  pub flags : Every (FlagsBelow n) (trees os) → FlagsBelow n t
 
 module _ (n : ℕ) (s : List ℕ) (t : Tree) where
-  finished : (k p : ℕ) (ts : List Tree) → finish (length s) ts ≡ gives t → length s ≤ p → Ran k n s p ts t
+  finished : (k p : ℕ) (os : List Operand) → finish (length s) os ≡ gives t → length s ≤ p → Ran k n s p os t
   unfolding finish
   finished k p [] e h = absurd (not-both (sym e))
-  finished k p (u ∷ []) e h =
-      subst (Ran k n s p (u ∷ [])) (gives-same e) record {
-        bytes = ap (λ (l : List ℕ). write u ++ l) (drop-of-length-le s h) ∙ append-nil (write u);
+  finished k p (o ∷ []) e h =
+      subst (Ran k n s p (o ∷ [])) (gives-same e) record {
+        bytes = ap (λ (l : List ℕ). write (o .tree) ++ l) (drop-of-length-le s h) ∙ append-nil (write (o .tree));
         records = omega arith;
         flags = λ f. f .0;
       }
-  finished k p (u ∷ v ∷ ts) e h = absurd (not-both (sym e))
+  finished k p (o ∷ u ∷ os) e h = absurd (not-both (sym e))
 
-  ended : (k p : ℕ) (ts : List Tree) → run k n s p ts ≡ gives t → length s ≤ p → Ran k n s p ts t
-  ended k p ts e h = finished k p ts (sym (run-end k n s p ts h) ∙ e) h
+  -- a record more, and then t
+  after-turn : Below 256 s → (k p : ℕ) (os : List Operand) (u : Turn) → Taken n s p os u → Ran k n s (u .node .next) (u .stack) t
+      → Ran (suc k) n s p os t
+  after-turn small k p os u g i =
+      let r = record-read n s p (g .found) (g .reads) in
+      let d = pushed (g .found .kind) p os (g .left) (g .pushes) in
+      let i' : Ran k n s (g .found .next) (g .left .stack) t = subst (λ (x : Turn). Ran k n s (x .node .next) (x .stack) t) (sym (g .is)) i in
+      record {
+        bytes = rw (r .bytes (below-getD 256 s 0 (lit< tt) small (p + 1)), ← append-assoc, ← d .bytes) (i' .bytes);
+        records = omega arith;
+        flags = λ f. i' .flags (d .flags n (r .flag) f);
+      }
 
-  pub run-is : Below 256 s → (k p : ℕ) (ts : List Tree) → run k n s p ts ≡ gives t → Ran k n s p ts t
-  run-is small zero p ts e = elim (decLt p (length s)) [
-    | yes h ↦ absurd (not-both (sym e ∙ run-full n s p ts h))
-    | no h ↦ ended zero p ts e (omega arith)
+  pub run-is : Below 256 s → (k p : ℕ) (os : List Operand) → run k n s p os ≡ gives t → Ran k n s p os t
+  run-is small zero p os e = elim (decLt p (length s)) [
+    | yes h ↦ absurd (let a = run-gives zero n s p os t h e in omega (arith, a .1))
+    | no h ↦ finished zero p os (sym (run-end zero n s p os (omega arith)) ∙ e) (omega arith)
   ]
-  run-is small (suc k) p ts e = elim (decLt p (length s)) [
+  run-is small (suc k) p os e = elim (decLt p (length s)) [
     | yes h ↦
-        let u = run-gives n s p ts h k t e in
-        let r = record-read n s p (u .found) (u .reads) in
-        let d = pushed (u .found .kind) ts (u .stack) (u .pushes) in
-        let i = run-is small k (u .found .next) (u .stack) (u .rest) in
-        record {
-          bytes = rw (r .bytes (below-getD 256 s 0 (lit< tt) small (p + 1)), ← append-assoc, ← d .bytes) (i .bytes);
-          records = omega arith;
-          flags = λ f. i .flags (d .flags n (r .flag) f);
-        }
-    | no h ↦ ended (suc k) p ts e (omega arith)
+        let a = run-gives (suc k) n s p os t h e in
+        let u = a .2 .0 in
+        let same : k ≡ a .0 = omega (arith, a .1) in
+        let rest : run k n s (u .node .next) (u .stack) ≡ gives t = ap (λ (i : ℕ). run i n s (u .node .next) (u .stack)) same ∙ a .2 .2 in
+        after-turn small k p os u (turn-taken n s p os h k u (a .2 .1)) (run-is small k (u .node .next) (u .stack) rest)
+    | no h ↦ finished (suc k) p os (sym (run-end (suc k) n s p os (omega arith)) ∙ e) (omega arith)
   ]
 
 pub record Written (n : ℕ) (s : List ℕ) (t : Tree) : Type 0 where

@@ -6,7 +6,7 @@ use borrow.Author.Needs.{needs}
 use Rattle.bits.specs.Bit.{_⊕_, bit}
 use Rattle.rules.specs.Machine.{push}
 use Rattle.rules.specs.Tree.{CO, VA, AN, OR, XO, NO, value}
-use Rattle.evaluation.proofs.Packed.{repacked-leaf, repacked-unary, repacked-binary, and-table, or-table, xor-table}
+use Rattle.evaluation.proofs.Packed.{packed-leaf, packed-unary, packed-binary, and-table, or-table, xor-table}
 use Rattle.evaluation.proofs.packed_stack.after.Statement.{statement}
 use Rattle.evaluation.proofs.packed_stack.after.Tie as tie
 
@@ -15,45 +15,41 @@ shr-laid c = rw (c .before .kind2 .given .1) at (c .before .before .before .pre 
 
 returns : tie.Need-returns
 unfolding push value
-returns c ts e =
+returns c os p l e f =
     let k = c .before .before in
     let a = k .before .before .args in
-    rw (k .kind .given .1) (repacked-leaf (a .setting) (CO (k .kind .given .0 .0)) (c .laid .ensures) ts e)
+    packed-leaf (a .setting) (CO (k .kind .given .0 .0)) (c .laid .ensures) os p l e (rw (k .kind .given .1) at f)
 
 returns-2 : tie.Need-returns-2
 unfolding push value bit
-returns-2 c ts e =
+returns-2 c os p l e f =
     let k = c .before .before in
     let a = k .before .before .args in
-    rw (k .kind2 .given .1) (repacked-leaf (a .setting) (VA (k .kind2 .given .0 .0)) (c .laid2 .ensures) ts e)
+    packed-leaf (a .setting) (VA (k .kind2 .given .0 .0)) (c .laid2 .ensures) os p l e (rw (k .kind2 .given .1) at f)
 
 returns-3 : tie.Need-returns-3
 unfolding push value
-returns-3 c ts e =
+returns-3 c os p l e f =
     let a = c .before .before .before .args in
-    let r = c .joined .ensures in
-    rw (c .before .enum-told .given .1) (repacked-binary (a .setting) AN _&&_ (λ x y. refl) 0b1000 and-table (r .0) (r .1) ts e)
+    packed-binary (a .setting) AN _&&_ (λ x y. refl) 0b1000 and-table (c .joined .ensures) os l e (rw (c .before .enum-told .given .1) at f)
 
 returns-4 : tie.Need-returns-4
 unfolding push value
-returns-4 c ts e =
+returns-4 c os p l e f =
     let a = c .before .before .before .args in
-    let r = c .joined2 .ensures in
-    rw (c .before .enum-told2 .given .1) (repacked-binary (a .setting) OR _||_ (λ x y. refl) 0b1110 or-table (r .0) (r .1) ts e)
+    packed-binary (a .setting) OR _||_ (λ x y. refl) 0b1110 or-table (c .joined2 .ensures) os l e (rw (c .before .enum-told2 .given .1) at f)
 
 returns-5 : tie.Need-returns-5
 unfolding push value
-returns-5 c ts e =
+returns-5 c os p l e f =
     let a = c .before .before .before .args in
-    let r = c .joined3 .ensures in
-    rw (c .before .enum-told3 .given .1) (repacked-binary (a .setting) XO _⊕_ (λ x y. refl) 0b0110 xor-table (r .0) (r .1) ts e)
+    packed-binary (a .setting) XO _⊕_ (λ x y. refl) 0b0110 xor-table (c .joined3 .ensures) os l e (rw (c .before .enum-told3 .given .1) at f)
 
 returns-6 : tie.Need-returns-6
 unfolding push value
-returns-6 c ts e =
+returns-6 c os p l e f =
     let a = c .before .before .before .args in
-    let r = c .turned .ensures in
-    rw (c .before .enum-told4 .given .1) (repacked-unary (a .setting) NO (λ x. refl) (r .0) (r .1) ts e)
+    packed-unary (a .setting) NO (λ x. refl) (c .turned .ensures) os l e (rw (c .before .enum-told4 .given .1) at f)
 
 pub after-spec : {M : Type 1} → statement M
 after-spec =

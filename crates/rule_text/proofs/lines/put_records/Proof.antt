@@ -1,5 +1,6 @@
 -- `rule_text::lines::put_records` meets its contract. The loop's invariant is `Left`: the records from the place on are left to print. The measure
--- is what is left of the bytes. Where bytes are left the reader finds a record. From the laws of Left and of expr's Turn.
+-- is what is left of the bytes. Where bytes are left a record is read. From the laws of Left and of expr's ReadRecord.
+use mathlib.Core.Path.{sym, ap, _∙_}
 use Prim.Native.Nat.{_-_}
 use native.Mathlib.Omega.{arith}
 use lib.ListN.{length}
@@ -7,9 +8,8 @@ use borrow.Author.Needs.{needs}
 use Rattle.bits.proofs.Below.{getD-below}
 use Rattle.rules.specs.Machine.{made}
 use Rattle.rules.specs.Record.{Found}
-use Rattle.expr.specs.Answers.{kindOf}
-use Rattle.expr.proofs.Reader.{Read, read-index}
-use Rattle.expr.proofs.Turn.{turn-found}
+use Rattle.expr.specs.Answers.{recordOf, foundOf}
+use Rattle.expr.proofs.ReadRecord.{read-index}
 use Rattle.bits.proofs.Stored.{stored-length}
 use Rattle.rule_text.specs.inner.Parts.{shown}
 use Rattle.rule_text.proofs.Left.{Left, Next, left-start, left-next, left-found, left-end, left-gap, left-kind, left-step}
@@ -28,7 +28,7 @@ loop-holds c =
     left-start (s .args .flags) (s .args .expression .now) (s .pre .1)
     (getD-below 256 (s .args .expression .now) 0 (λ i. c .before .shared-slice-known .given i .fits)) (s .args .at) (s .args .out .now) (omega arith)
 
--- where the reader found a record
+-- where a record was read
 module _ (c : tie.After-answer Inv-loop μ-loop) where
   abbrev start : tie.Start Inv-loop μ-loop
   start = c .before .before .before .before .before .before .before
@@ -37,29 +37,32 @@ module _ (c : tie.After-answer Inv-loop μ-loop) where
   walk = c .before .before .before .before
 
   abbrev r : Found
-  r = record { kind = kindOf (c .answer .given .0 .0 .kind); next = c .answer .given .0 .0 .next }
-
-  found : Read (start .args .flags) (start .args .expression .now) (walk .loop .place) r
-  found = turn-found (c .answer .given .1) (c .before .before .step .ensures)
+  r = recordOf (c .answer .given .0 .0)
 
   next : Next (walk .loop .inv) r
-  next = left-next (walk .loop .inv) (c .before .before .before .loop-test .taken) r found
+  next =
+      left-next (walk .loop .inv) (c .before .before .before .loop-test .taken) r
+      (sym (c .before .before .record-at .ensures) ∙ ap foundOf (c .answer .given .1))
 
--- where it had found the record, seen from where the gap before the record was put
+-- where the record was read, seen from where the gap before it was put
 abbrev answered : tie.After-put-gap Inv-loop μ-loop → tie.After-answer Inv-loop μ-loop
 answered p = p .before .before .before
 
--- where it found none, though bytes are left
-never : (c : tie.At-match-keys2 Inv-loop μ-loop) → ⊥
+-- where none was read, though bytes are left
+never : (c : tie.After-enum-told Inv-loop μ-loop) → ⊥
 never c =
-    let told = c .before .step in
-    left-found (c .before .before .before .loop .inv) (c .before .before .loop-test .taken) (told .result) (told .ensures) (c .match .keys2)
+    let told = c .before .before in
+    left-found (told .before .before .loop .inv) (told .before .loop-test .taken)
+    (sym (told .record-at .ensures) ∙ ap foundOf (c .enum-told .given .1))
 
-step-requires : tie.Need-step-requires Inv-loop μ-loop
-step-requires c κs = search needs
+record-at-requires : tie.Need-record-at-requires Inv-loop μ-loop
+record-at-requires c κs = search needs
 
 enum-known-answer : tie.Need-enum-known-answer Inv-loop μ-loop
 enum-known-answer c = search needs
+
+enum-told : tie.Need-enum-told Inv-loop μ-loop
+enum-told c = search needs
 
 same-length : tie.Need-same-length Inv-loop μ-loop
 same-length c = absurd (never c)
@@ -74,12 +77,12 @@ put-kind-requires : tie.Need-put-kind-requires Inv-loop μ-loop
 put-kind-requires c κs =
     let p = c .before .before .before in
     let a = answered p in
-    (read-index (found a) 10 (omega arith), left-kind (walk a .loop .inv) (next a) (p .put-gap .ensures) (start a .pre .2))
+    (read-index (next a .read) 10 (omega arith), left-kind (walk a .loop .inv) (next a) (p .put-gap .ensures) (start a .pre .2))
 
 loop-less : tie.Need-loop-less Inv-loop μ-loop
 loop-less c =
     let a = answered (c .before .before .before .before .before .before) in
-    omega (arith, found a .after, a .before .before .before .loop-test .taken)
+    omega (arith, next a .read .after, a .before .before .before .loop-test .taken)
 
 loop-again : tie.Need-loop-again Inv-loop μ-loop
 loop-again c =
@@ -101,8 +104,9 @@ put-records-spec =
     Inv-loop
     μ-loop
     loop-holds
-    step-requires
+    record-at-requires
     enum-known-answer
+    enum-told
     same-length
     returns
     put-gap-requires

@@ -1,0 +1,8 @@
+pub mod Stack
+pub mod Walk
+pub mod Turn
+pub mod Reader
+pub mod Finding
+pub mod Saved
+pub mod Costed
+pub mod Injective
