@@ -23,7 +23,7 @@ static const uint8_t raw[] = {'V', 'A', 0, 'V', 'A', 1, 'A', 'N', 'V', 'A', 0, '
                               'V', 'A', 1, 'V', 'A', 2, 'A', 'N', 'X', 'O', 'X', 'O'};
 /* The rule 01111000. */
 static const uint8_t other[] = {'V', 'A', 0, 'V', 'A', 1, 'O', 'R', 'V', 'A', 2, 'X', 'O'};
-/* The rule 0100. */
+/* The rule 0100, of two flags, read here with three. */
 static const uint8_t negated[] = {'V', 'A', 0, 'V', 'A', 1, 'N', 'O', 'A', 'N'};
 static const uint8_t cut[] = {'V', 'A', 0, 'V', 'A', 1, 'O'};
 
@@ -89,7 +89,7 @@ static void coefficients_listed(void)
         printf("%" PRIu64 "\n", answer[0]);
 }
 
-/* The record at a place; whether there is one. */
+/* The record at a place; whether there is one. A refusal is printed. */
 static int found(const uint8_t *bytes, uint64_t length, uint64_t place, uint64_t *answer)
 {
     return !refused(rule_read(FLAGS, bytes, length, place, answer, GUIDE_RULES_ANSWER_LIMIT), answer) && answer[0] != GUIDE_RULES_KIND_END;

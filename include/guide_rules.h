@@ -56,7 +56,8 @@
      13       the cost is above the cost of the table's raw form                            the cost
       5       an output shorter than the result                                             the length needed, in the output's own entries
 
-   9, 6, 7 and 8 run record by record from byte 0, before 10 and before the 8 of a place. package_read gives the places of 6 to 9 as bytes of the
+   9, 6, 7 and 8 run record by record from byte 0, before 10; of rule_read for the records that begin at or before the place alone, and before the 8 of
+   that place. package_read gives the places of 6 to 9 as bytes of the
    package, and that of 10 as the byte after the expression; those of 12 and 13 stay a setting and a cost. Its 16 at place 0 is the first rule's where
    the package has at most 65,536 bytes.
 
@@ -162,8 +163,8 @@ uint64_t rule_raw_cost(uint64_t flags, const uint64_t *coefficients, uint64_t wo
 uint64_t rule_compile(uint64_t flags, const uint64_t *table, uint64_t entries, uint8_t *out, uint64_t out_bytes, uint64_t *answer,
                       uint64_t answers);
 
-/* The record that starts at a place, with the first byte of each of its operands, or the end at any place from the length on. The records are read
-   from byte 0 up to the one at the place; what stands behind it is not read, and that operands are left over is no refusal.
+/* The record that starts at a place, with the first byte of each of its operands, or, if no record is refused, the end at any place from the length
+   on. The records are read from byte 0 up to the one at the place; what stands behind it is not read, and that operands are left over is no refusal.
    AN, OR and XO have two operands, NO has one, the first, and CO and VA have none. Of AN, OR or XO at p whose operands start at a and b, the bytes
    from a up to b are the first operand whole and those from b up to p the second; of NO at p the bytes from its start up to p are its operand. (From
    a up to b: lend `bytes + a` and the length b - a.) An operand may start at 0, so the kind tells whether there is one, not the start.
@@ -171,7 +172,9 @@ uint64_t rule_compile(uint64_t flags, const uint64_t *table, uint64_t entries, u
    walk grows with the square of the length; a call reads at most 385 records.
    Refuses by 1 (6 flags), also at the end; then by 9, 6, 7, 8 record by record from byte 0, the record at the place included, so that at a place
    inside or behind a refused record, and from the length on too, the answer is that record's refusal; then by 8, with the place itself, at a place
-   below the length that is not the first byte of a record.
+   below the length that is not the first byte of a record. 8 with an earlier place is that record's; 8 with the place asked for says that its record
+   lacks operands or that no record begins there.
+   A block of three takes the kind, the payload and the next place, and not the starts.
    Results: the kind, and nothing more at the end; the payload, 0 where there is none; the next place; the start of the first operand; that of the
    second; each of these two is 0 where there is none. */
 uint64_t rule_read(uint64_t flags, const uint8_t *bytes, uint64_t length, uint64_t place, uint64_t *answer, uint64_t answers);

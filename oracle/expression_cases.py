@@ -95,14 +95,14 @@ def coefficients(n, table):
     )
 
 
-def answer(call, n, extra, entries, word, data, second):
+def answer(call, n, setting, entries, word, data, second):
     """What document 01 says: three results, or a refusal."""
     if call == EVALUATE:
         if n > 6:
             raise Refusal(1, 0)
-        if extra >= 1 << n:
+        if setting >= 1 << n:
             raise Refusal(11, 0)
-        return (value(parse(n, data), extra), 0, 0)
+        return (value(parse(n, data), setting), 0, 0)
     if call == COSTING:
         t = parse(n, data)
         return (cost(t), size(t), depth(t))
@@ -133,12 +133,12 @@ def answer(call, n, extra, entries, word, data, second):
     return (2 if (size(u), depth(u)) < (size(t), depth(t)) else 1, 0, 0)
 
 
-def case(call, n, extra=0, entries=0, word=0, data=b"", second=b""):
+def case(call, n, setting=0, entries=0, word=0, data=b"", second=b""):
     try:
-        number, results = 0, answer(call, n, extra, entries, word, data, second)
+        number, results = 0, answer(call, n, setting, entries, word, data, second)
     except Refusal as refusal:
         number, results = refusal.number, (refusal.place, 0, 0)
-    out = bytes([call]) + n.to_bytes(8, "little") + extra.to_bytes(8, "little")
+    out = bytes([call]) + n.to_bytes(8, "little") + setting.to_bytes(8, "little")
     out += entries.to_bytes(2, "little") + word.to_bytes(8, "little")
     out += len(data).to_bytes(2, "little") + len(second).to_bytes(2, "little") + bytes([number])
     return out + b"".join(r.to_bytes(2, "little") for r in results) + data + second
@@ -170,7 +170,7 @@ def whole(n, data, table):
     """All calls on one expression."""
     yield case(COSTING, n, data=data)
     yield case(EXAMINE, n, entries=1 << min(n, 6), word=table, data=data)
-    yield case(EVALUATE, n, extra=rng.randrange(1 << min(n, 6)), data=data)
+    yield case(EVALUATE, n, setting=rng.randrange(1 << min(n, 6)), data=data)
 
 
 def starts(data):
@@ -206,7 +206,7 @@ def rows():
             yield case(EXAMINE, n, entries=entries, word=table_of(min(n, 6), data), data=data)
     for n in range(7):
         for setting in (0, (1 << n) - 1, 1 << n, (1 << n) + 1, 64, LARGEST):
-            yield case(EVALUATE, n, extra=setting, data=b"CO\1")
+            yield case(EVALUATE, n, setting=setting, data=b"CO\1")
         for word in (0, 1, (1 << (1 << n)) - 1, min(1 << (1 << n), LARGEST), LARGEST, 1 << 63):
             for entries in (0, 1, 2):
                 yield case(RAW, n, entries=entries, word=word)
@@ -250,7 +250,7 @@ def wrong():
     rule = b"VA\0VA\1OR"
     yield case(COSTING, 2, data=rule)
     for right in (
-        case(EVALUATE, 2, extra=1, data=rule),
+        case(EVALUATE, 2, setting=1, data=rule),
         case(EXAMINE, 2, entries=4, word=14, data=rule),
         case(RAW, 2, entries=1, word=14),
         case(CHEAPER, 2, data=rule, second=b"VA\0"),

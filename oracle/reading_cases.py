@@ -396,6 +396,7 @@ def counts(asked):
 def main():
     if len(sys.argv) != 2:
         sys.exit("use: reading_cases.py FOLDER")
+    # So that these expressions do not depend on what cases.bin takes from its own sequence.
     document_01.rng = RNG
     asked = list(dict.fromkeys(questions()))
     Path(sys.argv[1], "readings.bin").write_bytes(b"".join(item(n, data, place, read(n, data, place)) for n, data, place in asked))

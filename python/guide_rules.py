@@ -287,7 +287,7 @@ def read(flags: int, expression: Expression, place: int) -> Optional[Record]:
     The bytes from one start up to the next, and from the last up to the place, are an operand whole: of AN, OR and XO with starts a and b
     the operands are expression[a:b] and expression[b:place], of NO with start a it is expression[a:place].
     The records are read from byte 0 up to the one at the place, so the time grows with the place. A record that is refused on the way is
-    this call's Refusal, at the end too; a place inside a record is refused by 8.
+    this call's Refusal, at the end too; a place inside a record is refused by 8, with that place.
     """
     return _read(_fitting(flags, "flags"), _of(expression), _fitting(place, "place"))
 
@@ -295,6 +295,7 @@ def read(flags: int, expression: Expression, place: int) -> Optional[Record]:
 def records(flags: int, expression: Expression) -> List[Record]:
     """All records in turn, by read; that no bytes are there, or that operands are left over, is no Refusal.
 
+    The first begins at 0, and each other at the `next` of the one before.
     As read goes from byte 0 each time, the time grows with the square of the number of records; a 386th is refused.
     """
     flags, data = _fitting(flags, "flags"), _of(expression)

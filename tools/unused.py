@@ -8,7 +8,7 @@ import re
 
 ROOT = pathlib.Path("crates")
 KEPT = {"RoundTrip", "ThirdDemand", "Injective", "Numbered", "Accepts", "AcceptsCompiled", "WellFormed", "Zhegalkin", "Example", "Printed", "Input", "Determined",
-        "Compared", "UnmarkedFlags", "Contracts", "EachStar", "MaskOrder"}
+        "Compared", "UnmarkedFlags", "Contracts", "EachStar", "MaskOrder", "Operands", "TreeNodes"}
 COMMENT = re.compile(r"(?m)(^|\s)(--|//)(\s.*)?$")
 USE = re.compile(r"(?m)^\s*(?:pub )?(?:ghost )?use ([^\s;{]+?)(?:\.\{([^}]*)\}| as (\S+?))?;?\s*$")
 DECLARED = re.compile(r"( *)(?:(?:abbrev |unfoldable |pub )*([^\s:(){}=]+) : |(?:pub )?(?:record|data) ([^\s:(){}=]+))")

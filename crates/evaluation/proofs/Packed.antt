@@ -20,19 +20,18 @@ use native.Mathlib.Omega.{arith}
 use lib.Dec.{eqb}
 use lib.ListN.{length, getD, set, length-set}
 use lib.Pow.{pow-mono}
-use borrow.Author.Tests.{eqb-true}
 use Rattle.bits.specs.Bit.{_⊕_, bit, digit}
 use Rattle.bits.proofs.Bit.{bit-first, digit-bit, digit-le}
-use Rattle.rules.specs.Limits.{ruleFlags, badEnd}
+use Rattle.rules.specs.Limits.{ruleFlags}
 use Rattle.rules.specs.Machine.{Operand, Left, push, leaf, binary, unary}
-use Rattle.rules.specs.Outcome.{Outcome, gives, refuse, _then_}
+use Rattle.rules.specs.Outcome.{gives}
 use Rattle.rules.specs.Record.{Found, operandCount}
 use Rattle.rules.specs.Tree.{Tree, value}
 use Rattle.laws.proofs.reading.Stack.{no-left, some-left}
 use Rattle.reader.specs.Inner.{operand, Image, Reached, begun, ended}
 use Rattle.reader.proofs.Stack.{leftBy, push-enough, image-empty}
 use Rattle.reader.proofs.Turn.{Stepped}
-use Rattle.reader.proofs.Walk.{Walk, walk-start, walk-step, walk-stack, walk-begins, walk-reached, walk-end, held}
+use Rattle.reader.proofs.Walk.{Walk, walk-start, walk-step, walk-stack, walk-begins, walk-reached, walk-end}
 use Rattle.evaluation.specs.inner.Packed.{packed}
 use Rattle.evaluation.specs.inner.OneSetting.{evaluated}
 
@@ -158,11 +157,5 @@ module _ {n : ℕ} {s : List ℕ} {at count place stack : ℕ} {starts : List �
   pub packing-end : length s ≤ place → evaluated n s at ≡ ended depth (length s) (gives (digit (eqb (stack % 2) 1)))
   unfolding evaluated
   packing-end h =
-      ap (λ (o : Outcome Tree). o then (λ t. gives (digit (value t at)))) (walk-end (w .walk) h) ∙ go (eqb depth 1) refl
-    where
-      go : (b : Bool) → eqb depth 1 ≡ b
-          → refuse (not b) badEnd (length s) (gives (held (w .walk) 0 .tree)) then (λ t. gives (digit (value t at)))
-          ≡ refuse (not b) badEnd (length s) (gives (digit (eqb (stack % 2) 1)))
-      go true q =
-          ap gives (lowest (w .walk .stack) (w .walk .deep ∙ eqb-true depth 1 q) (w .packs))
-      go false q = refl
+      walk-end (w .walk) (λ t. gives (digit (value t at))) (gives (digit (eqb (stack % 2) 1))) h
+      (λ one. ap gives (lowest (w .walk .stack) one (w .packs)))

@@ -50,7 +50,7 @@ pub fn evaluate(flags: usize, bytes: &[u8], setting: usize) -> Evaluation
     walk(flags, bytes, setting)
 }
 
-// The records in turn over a stack of truth values that is one number; beside it stands where each operand begins.
+// The records in turn over a stack of truth values that is one number, of at most 63; beside it stands where each operand begins.
 fn walk(flags: usize, bytes: &[u8], setting: usize) -> Evaluation
     requires { ⌜ (flags ≤ ruleFlags) × (setting < 2 ^ flags) ⌝ }
     ensures { λ r. ⌜ evaluationOf r ≡ evaluated flags (now (bytes .entry)) setting ⌝ }

@@ -1,4 +1,5 @@
-// The truth values on evaluation's stack as the bits of one number, the topmost lowest, under a leading one: what a record makes of that number.
+// The truth values on evaluation's stack as the bits of one number, the topmost lowest, under a leading one: what a record makes of that number. It
+// rests on `expr` for the kind of a record.
 use expr::Kind;
 ghost use mathlib.Core.List.{List};
 ghost use mathlib.Core.Option.{some};

@@ -2,7 +2,6 @@
 --   byMark n s p m                   == the record at place p by the number m of its two letters
 --   mark-unknown                     == no other number is a mark
 --   over-short, over-mark            == one byte left; two letters or more: the record over the operands by their number
---   over n s p d r                   == a record that rows 6 and 7 pass, refused where d operands are too few
 --   over-constant, over-flag         == a record with no operand is never refused so
 --   over-two                         == over two operands no record is
 use mathlib.Core.Bool.{Bool, true, false}
@@ -16,10 +15,10 @@ use lib.ListN.{length, getD, drop}
 use lib.Seq.{getD-drop}
 use borrow.Author.Tests.{lt-ltb, le-ltb, ne-eqb}
 use Rattle.rules.specs.Ascii.{ascii}
-use Rattle.rules.specs.Limits.{badMark, badPayload, fewOperands}
+use Rattle.rules.specs.Limits.{badMark, badPayload}
 use Rattle.rules.specs.Outcome.{Outcome, gives, refuses, refuse, _then_}
 use Rattle.rules.specs.Record.{Kind, Constant, Flag, And, Or, Xor, Not, Found, mark, marked, plain, loaded, recordAt, operandCount}
-use Rattle.expr.specs.Inner.{recordOver, constantAt, flagAt}
+use Rattle.expr.specs.Inner.{over, recordOver, constantAt, flagAt}
 
 module _ (n : ℕ) (s : List ℕ) (p : ℕ) where
   unfoldable pub byMark : ℕ → Outcome Found
@@ -56,33 +55,28 @@ module _ (n : ℕ) (s : List ℕ) (p : ℕ) where
       rw (ne-eqb m 0x434f h₁, byMark, ne-eqb m 0x5641 h₂, ne-eqb m 0x414e h₃, ne-eqb m 0x4f52 h₄, ne-eqb m 0x584f h₅, ne-eqb m 0x4e4f h₆)
 
   module _ (d : ℕ) where
-    -- what rows 6 and 7 pass, refused where d operands are too few
-    unfoldable pub over : Found → Outcome Found
-    over r = refuse (ltb d (operandCount (r .kind))) fewOperands p (gives r)
-
     pub over-short : length s < p + 2 → recordOver n s d p ≡ refuses badMark p
     unfolding recordOver recordAt
     over-short k = rw (lt-ltb (length s) (p + 2) k, recordAt)
 
-    pub over-mark : (m : ℕ) → p + 2 ≤ length s → getD s p 0 * 256 + getD s (p + 1) 0 ≡ m → recordOver n s d p ≡ byMark m then over
-    unfolding recordOver over
-    over-mark m h e = ap (λ (o : Outcome Found). o then over) (record-mark h ∙ ap byMark e)
+    pub over-mark : (m : ℕ) → p + 2 ≤ length s → getD s p 0 * 256 + getD s (p + 1) 0 ≡ m → recordOver n s d p ≡ byMark m then over d p
+    unfolding recordOver
+    over-mark m h e = ap (λ (o : Outcome Found). o then over d p) (record-mark h ∙ ap byMark e)
 
     loaded-over : (short fits : Bool) (k : Kind) → operandCount k ≡ 0
-        → refuse short badPayload p (elim fits [ true ↦ gives (record { kind = k; next = p + 3 }) | false ↦ refuses badPayload p ]) then over
+        → refuse short badPayload p (elim fits [ true ↦ gives (record { kind = k; next = p + 3 }) | false ↦ refuses badPayload p ]) then over d p
         ≡ refuse short badPayload p (elim fits [ true ↦ gives (record { kind = k; next = p + 3 }) | false ↦ refuses badPayload p ])
-    unfolding over
     loaded-over true fits k e = refl
     loaded-over false true k e = let z : operandCount k ≤ d = omega arith in rw (le-ltb d (operandCount k) z)
     loaded-over false false k e = refl
 
-    pub over-constant : byMark 0x434f then over ≡ constantAt s p
+    pub over-constant : byMark 0x434f then over d p ≡ constantAt s p
     unfolding byMark constantAt loaded
     over-constant =
         let c : ℕ = getD s (p + 2) 0 in
         loaded-over (ltb (length s) (p + 3)) (leb c 1) (Constant (eqb c 1)) refl
 
-    pub over-flag : byMark 0x5641 then over ≡ flagAt n s p
+    pub over-flag : byMark 0x5641 then over d p ≡ flagAt n s p
     unfolding byMark flagAt loaded
     over-flag = loaded-over (ltb (length s) (p + 3)) (ltb (getD s (p + 2) 0) n) (Flag (getD s (p + 2) 0)) refl
 

@@ -8,7 +8,8 @@ use Prim.Native.Nat.{ℕ, _+_, _≤_, _<_}
 use native.Mathlib.Omega.{arith}
 use lib.ListN.{length}
 use Rattle.rules.specs.Outcome.{gives}
-use Rattle.rules.specs.Record.{Kind, Constant, Flag, And, Or, Xor, Not, FlagBelow, Found, recordAt}
+use Rattle.rules.specs.Record.{FlagBelow, Found, recordAt}
+use Rattle.laws.proofs.reading.FlagsBelow.{flag-more}
 use Rattle.laws.proofs.reading.RecordAt.{bytesOf-short, record-read}
 
 pub record Read (n : ℕ) (s : List ℕ) (p : ℕ) (r : Found) : Type 0 where
@@ -23,13 +24,5 @@ found-read n s p r e =
     let d = record-read n s p r e in
     record { stands = e; after = d .ahead; near = omega (arith, bytesOf-short (r .kind), d .next); within = d .inside; index = d .flag }
 
-index-more : (n m : ℕ) → n ≤ m → (k : Kind) → FlagBelow n k → FlagBelow m k
-index-more n m l (Constant b) h = tt
-index-more n m l (Flag i) h = omega arith
-index-more n m l And h = tt
-index-more n m l Or h = tt
-index-more n m l Xor h = tt
-index-more n m l Not h = tt
-
 pub read-index : {n : ℕ} {s : List ℕ} {p : ℕ} {r : Found} → Read n s p r → (m : ℕ) → n ≤ m → FlagBelow m (r .kind)
-read-index {n} {r = r} f m l = index-more n m l (r .kind) (f .index)
+read-index {n} {r = r} f m l = flag-more n m l (r .kind) (f .index)

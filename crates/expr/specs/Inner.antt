@@ -1,5 +1,6 @@
 -- The parts of the reading of one record, for the contracts of inner functions.
 --   orOf k           == a record of the kind is an OR
+--   over d p r           == a record r at place p that rows 6 and 7 pass, refused where d operands are too few
 --   recordOver n s d p   == the record that begins at place p, where d operands are left by those before it: rows 6, 7 and 8
 --   operatorAt k few p q == an operator of kind k at place p, whose operands may be too few, with the next place q
 --   constantAt s p   == what begins at place p of the mark CO
@@ -23,8 +24,11 @@ orOf paper.Xor = false
 orOf paper.Not = false
 
 -- operands "too few" are refused at the record's first byte
+abbrev pub over : ℕ → ℕ → paper.Found → Outcome paper.Found
+over d p r = refuse (ltb d (paper.operandCount (r .kind))) fewOperands p (gives r)
+
 unfoldable pub recordOver : ℕ → List ℕ → ℕ → ℕ → Outcome paper.Found
-recordOver n s d p = paper.recordAt n s p then (λ r. refuse (ltb d (paper.operandCount (r .kind))) fewOperands p (gives r))
+recordOver n s d p = paper.recordAt n s p then over d p
 
 abbrev pub operatorAt : paper.Kind → Bool → ℕ → ℕ → Outcome paper.Found
 operatorAt k few p q = refuse few fewOperands p (gives (record { kind = k; next = q }))

@@ -1,5 +1,5 @@
--- Laws of a record's depth: the stack of depths follows the machine's stack of trees, and since a tree is no deeper than its records are many, every
--- depth fits. They rest on the definitions of rules' Tree and on the laws of reader's Walk and Costed.
+-- Laws of a record's depth: the stack of depths follows the trees of the machine's stack, and since a tree is no deeper than its records are many,
+-- every depth fits. They rest on the definitions of rules' Tree and on the laws of reader's Walk and Costed.
 --   depth-size         == a tree is no deeper than it has records
 --   deepened k x y     == the depth of a record of kind k, from its operands' depths
 --   depth-folds        == a record's depth comes from its operands' depths

@@ -1,7 +1,7 @@
 -- Laws of lanes: the operations on whole words are those of the records in every lane at once. They rest on the laws of bits (bits, Bit) and of a
 -- tree's values for 64 stars (laws, Stars) and, for the walk, on the laws of reader's Costed.
 --   combined n ws k x y      == the lanes of a record from those of its operands, for a flag of any index
---   lanes-folds              == so the walk's stack of lanes follows the machine's stack of trees
+--   lanes-folds              == so the walk's stack of lanes follows the trees of the machine's stack
 --   lanes-step               == one record more in the code's walk
 --   seen-refused, seen-end   == the walk's answer where the bytes are refused, and at their end
 use mathlib.Core.Bool.{Bool, true, false, not, _&&_, _||_}

@@ -184,12 +184,12 @@ fn value_of(kind: Kind, words: &[u64], stack: &[u64], depth: usize) -> u64
     }
 }
 
-// The entry so many below the top.
-fn entry(stack: &[u64], depth: usize, below: usize) -> u64
-    requires { ⌜ (0 < below) × (below ≤ depth) × (depth ≤ length (now stack)) ⌝ }
-    ensures { λ r. ⌜ r ≡ getD (now (stack .entry)) (depth - below) 0 ⌝ }
+// The nth entry from the top, which is the first.
+fn entry(stack: &[u64], depth: usize, nth: usize) -> u64
+    requires { ⌜ (0 < nth) × (nth ≤ depth) × (depth ≤ length (now stack)) ⌝ }
+    ensures { λ r. ⌜ r ≡ getD (now (stack .entry)) (depth - nth) 0 ⌝ }
 {
-    stack[depth - below]
+    stack[depth - nth]
 }
 
 // A constant in all lanes.

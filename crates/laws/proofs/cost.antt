@@ -5,3 +5,4 @@ pub mod Mentioned
 pub mod Mentions
 pub mod Floor
 pub mod Fits
+pub mod Saved

@@ -1,6 +1,7 @@
 -- Laws of a walk that keeps arrays beside the stack of what it computes: which trees are ORs, so that it counts what the OR discount saves, and where
 -- the operands begin. The cost of the expression is the number of its records less what was saved. They hold whatever `e` the walk keeps of a tree
 -- besides, and rest on the laws of Walk and Stack and of Saved.
+--   savedOf o, isOrOf o                   == what an operand's tree saves, and whether it is an OR
 --   saved-push                            == a record saves one where it is an OR and its first operand is an OR
 --   Costed e n s entries count place depth a ors starts less
 --                                         == a walk, where ors says which trees are ORs, starts where they begin, and less is what they save; all
@@ -10,24 +11,22 @@
 --   costed-less, costed-more, costed-fits == no more is saved than records are read, nor with the next record, and so it fits
 --   costed-fold                           == what a fold makes of the array's entries is e of the record's tree
 --   costed-end                            == at the end of the bytes, where one operand must be left
-use mathlib.Core.Bool.{Bool, true, false, not, _&&_}
+use mathlib.Core.Bool.{Bool, true, false, _&&_}
 use mathlib.Core.List.{List}
 use mathlib.Core.Path.{_≡_, refl, sym, ap, ap₂, _∙_}
 use Prim.Native.Nat.{ℕ, _+_, _-_, _^_, _≤_, _<_}
 use native.Mathlib.Omega.{arith}
-use lib.Dec.{eqb}
 use lib.ListN.{length, getD, set, length-set}
 use mir.Val.{boolByte}
-use borrow.Author.Tests.{eqb-true}
 use Rattle.bits.specs.Bit.{digit}
 use Rattle.bits.specs.Sum.{sum, total}
 use Rattle.bits.proofs.Total.{total-mono}
-use Rattle.rules.specs.Limits.{ruleFlags, badEnd}
+use Rattle.rules.specs.Limits.{ruleFlags}
 use Rattle.rules.specs.Machine.{Operand, made}
-use Rattle.rules.specs.Outcome.{Outcome, gives, refuse, _then_}
+use Rattle.rules.specs.Outcome.{Outcome, _then_}
 use Rattle.rules.specs.Record.{Kind, Constant, Flag, And, Or, Xor, Not, Found, operandCount}
 use Rattle.rules.specs.Tree.{Tree, cost, size}
-use Rattle.reader.proofs.Saved.{isOr, saved, cost-saved}
+use Rattle.laws.proofs.cost.Saved.{isOr, saved, cost-saved}
 use Rattle.expr.specs.Inner.{orOf}
 use Rattle.reader.specs.Inner.{operand, Image, Reached, begun, ended}
 use Rattle.reader.proofs.Stack.{join, leftBy, total-two, total-one, total-single, image-empty, sizeOf}
@@ -141,19 +140,12 @@ module _ {A : Type 0} {e : Tree → A} {n : ℕ} {s : List ℕ} {entries count p
 
   pub costed-end : length s ≤ place → (d : A) → {B : Type 0} (g : A → ℕ → ℕ → Outcome B)
       → made n s then (λ t. g (e t) (cost t) (size t)) ≡ ended depth (length s) (g (getD a 0 d) (count - less) count)
-  costed-end h d {B} g = ap (λ (o : Outcome Tree). o then (λ t. g (e t) (cost t) (size t))) (walk-end (w .walk) h) ∙ go (eqb depth 1) refl
-    where
-      t : Tree
-      t = held (w .walk) 0 .tree
-
-      go : (b : Bool) → eqb depth 1 ≡ b
-          → refuse (not b) badEnd (length s) (gives t) then (λ t. g (e t) (cost t) (size t))
-          ≡ refuse (not b) badEnd (length s) (g (getD a 0 d) (count - less) count)
-      go true q =
-          let one : length (w .walk .stack) ≡ 1 = w .walk .deep ∙ eqb-true depth 1 q in
-          let many : size t ≡ count = sym (total-single sizeOf (w .walk .stack) one) ∙ w .walk .sizes in
-          let few : saved t ≡ less = sym (total-single savedOf (w .walk .stack) one) ∙ w .saves in
-          let left : cost t ≡ count - less = omega (arith, cost-saved t) in
-          let kept : getD a 0 d ≡ e t = w .image d 0 (omega arith) in
-          rw (kept, left, many)
-      go false q = refl
+  costed-end h d {B} g =
+      walk-end (w .walk) (λ t. g (e t) (cost t) (size t)) (g (getD a 0 d) (count - less) count) h
+      (λ one.
+      let t : Tree = held (w .walk) 0 .tree in
+      let many : size t ≡ count = sym (total-single sizeOf (w .walk .stack) one) ∙ w .walk .sizes in
+      let few : saved t ≡ less = sym (total-single savedOf (w .walk .stack) one) ∙ w .saves in
+      let left : cost t ≡ count - less = omega (arith, cost-saved t) in
+      let kept : getD a 0 d ≡ e t = w .image d 0 (omega arith) in
+      rw (kept, left, many))

@@ -26,7 +26,7 @@ use Rattle.reader.specs.declared.Reading.{Reading}
 use Rattle.reader.proofs.Reading.{the-type}
 use Rattle.reader.proofs.Reader.{later-refused, later-end}
 use Rattle.reader.proofs.Stack.{image-empty}
-use Rattle.reader.proofs.Turn.{Stepped, turn-past}
+use Rattle.reader.proofs.Turn.{Stepped, answer-past}
 use Rattle.reader.proofs.Walk.{Walk, walk-start, walk-step, walk-asked, walk-stack, walk-begins, walk-reached}
 
 pub record Finding (n : ℕ) (s : List ℕ) (asked : ℕ) (starts : List ℕ) (depth at count : ℕ) : Type 0 where
@@ -64,7 +64,7 @@ module _ {n : ℕ} {s : List ℕ} {asked : ℕ} {starts : List ℕ} {depth at co
   pub finding-other : n ≤ ruleFlags → at ≤ asked → (r : Reading) → (tagOf the-type r ≡ 1) ⊎ (tagOf the-type r ≡ 2)
       → readingOf r ≡ read n s at → readingOf r ≡ read n s asked
   finding-other l h (Reading.Found node) o e = absurd (⊎-elim (λ q. omega arith) (λ q. omega arith) o)
-  finding-other l h Reading.End o e = sym (later-end (finding-reached l) asked h (turn-past (w .walk) l (sym e)))
+  finding-other l h Reading.End o e = sym (later-end (finding-reached l) asked h (answer-past (w .walk) l (sym e)))
   finding-other l h (Reading.Refused x) o e = sym (later-refused (finding-reached l) asked h (x .number) (x .place) (sym e))
 
   pub finding-inside : asked < at → read n s asked ≡ refuses fewOperands asked

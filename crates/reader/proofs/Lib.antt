@@ -3,6 +3,5 @@ pub mod Walk
 pub mod Turn
 pub mod Reader
 pub mod Finding
-pub mod Saved
 pub mod Costed
 pub mod Injective

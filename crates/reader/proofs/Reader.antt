@@ -2,6 +2,7 @@
 -- place says of a later one. They rest on `Reached` of the definitions, on the machine's turns (laws, Run) and on the laws of Stack.
 --   read-over                        == too many flags
 --   reached-end, reached-many        == no byte is left; no more records may begin
+--   Passed, over-passed              == a record that rows 6, 7 and 8 pass, with its operands
 --   reached-refused, reached-found   == the record is refused by rows 6, 7 or 8; it is read
 --   later-refused, later-end         == a place behind a refused record, and one behind the end
 use mathlib.Core.Bool.{Bool, true, false}
@@ -20,8 +21,8 @@ use Rattle.rules.specs.Machine.{Node, Operand, turn}
 use Rattle.rules.specs.Outcome.{Outcome, gives, refuses, refuse, _then_}
 use Rattle.rules.specs.Record.{Kind, Constant, Flag, And, Or, Xor, Not, Found, operandCount, recordAt}
 use Rattle.laws.proofs.calls.Outcome.{gives-same, not-both, then-gives, then-refuses}
-use Rattle.laws.proofs.reading.Run.{turnOf, nodeOf, turn-end, turn-full, turn-bad, turn-few, turn-read, node-here, node-refused, node-end}
-use Rattle.expr.specs.Inner.{recordOver}
+use Rattle.laws.proofs.reading.Run.{turnOf, turnNode, turn-end, turn-full, turn-bad, turn-few, turn-read, node-here, node-refused, node-end}
+use Rattle.expr.specs.Inner.{over, recordOver}
 use Rattle.reader.specs.Inner.{operand, Reached, startAt, nodeOver}
 use Rattle.reader.proofs.Stack.{leftBy, firstOf, secondOf, push-enough, push-few}
 
@@ -50,7 +51,7 @@ module _ {n : ℕ} {s starts : List ℕ} {depth place count : ℕ} (w : Reached 
   os = w .stack
 
   -- the machine's turn at the place
-  here : read n s place ≡ turn (recordLimit - count) n s place os then (λ o. gives (nodeOf o))
+  here : read n s place ≡ turn (recordLimit - count) n s place os then (λ o. gives (turnNode o))
   here = w .finds place (le-refl place) ∙ node-here (recordLimit - count) n s place os
 
   pub reached-end : length s ≤ place → read n s place ≡ gives none
@@ -59,14 +60,14 @@ module _ {n : ℕ} {s starts : List ℕ} {depth place count : ℕ} (w : Reached 
   pub reached-many : recordLimit ≤ count → place < length s → read n s place ≡ refuses manyRecords place
   reached-many l h =
       let e : recordLimit - count ≡ 0 = omega arith in
-      here ∙ ap (λ (k : ℕ). turn k n s place os then (λ o. gives (nodeOf o))) e ∙ rw (turn-full n s place os h)
+      here ∙ ap (λ (k : ℕ). turn k n s place os then (λ o. gives (turnNode o))) e ∙ rw (turn-full n s place os h)
 
   module _ (l : count < recordLimit) (h : place < length s) where
     -- the same where more records may begin
-    turned : read n s place ≡ turn (suc (recordLimit - (count + 1))) n s place os then (λ o. gives (nodeOf o))
+    turned : read n s place ≡ turn (suc (recordLimit - (count + 1))) n s place os then (λ o. gives (turnNode o))
     turned =
         let e : recordLimit - count ≡ suc (recordLimit - (count + 1)) = omega arith in
-        here ∙ ap (λ (k : ℕ). turn k n s place os then (λ o. gives (nodeOf o))) e
+        here ∙ ap (λ (k : ℕ). turn k n s place os then (λ o. gives (turnNode o))) e
 
     pub reached-refused : (k q : ℕ) → recordOver n s depth place ≡ refuses k q → read n s place ≡ refuses k q
     unfolding recordOver
@@ -80,7 +81,7 @@ module _ {n : ℕ} {s starts : List ℕ} {depth place count : ℕ} (w : Reached 
         few r f false g x = absurd (not-both x)
 
         go : (o : Outcome Found) → recordAt n s place ≡ o
-            → o then (λ r. refuse (ltb depth (operandCount (r .kind))) fewOperands place (gives r)) ≡ refuses k q
+            → o then over depth place ≡ refuses k q
             → read n s place ≡ refuses k q
         go (gives r) f x = few r f (ltb depth (operandCount (r .kind))) refl x
         go (refuses j i) f x = turned ∙ rw (turn-bad n s place os h (recordLimit - (count + 1)) j i f) (refuses-again x)
@@ -155,7 +156,7 @@ module _ {n : ℕ} {s starts : List ℕ} {depth place count : ℕ} (w : Reached 
     later-refused k q e =
         w .finds at h
         ∙ node-refused n s at place os h (recordLimit - count) k q
-        (then-refuses (turn (recordLimit - count) n s place os) nodeOf k q (sym here ∙ e))
+        (then-refuses (turn (recordLimit - count) n s place os) turnNode k q (sym here ∙ e))
 
     pub later-end : length s ≤ place → read n s at ≡ gives none
     later-end p = w .finds at h ∙ node-end n s at place os h (recordLimit - count) p

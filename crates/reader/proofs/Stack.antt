@@ -1,9 +1,10 @@
 -- Laws of the machine's stack of operands: what a record does to it, and an array that holds the images of its operands, bottom first. It rests on
 -- `push` of rules' Machine alone.
 --   join k x y               == the tree of a record of kind k over the trees x and y, of which it takes as many as the kind has
---   node p k x y             == the operand that such a record leaves, where it begins at byte p
+--   built p k x y             == the operand that such a record leaves, where it begins at byte p
 --   begun-none, begun-some   == a record with no operand begins its own, and any other with its first operand
 --   firstOf k x, secondOf k y == where its operands begin, 0 for none
+--   leftBy k p ts base       == what such a record leaves of the stack ts, where its operands are those from place base on
 --   push-enough, push-few    == what a record does to the stack, where it finds its operands and where it does not
 --   total-two, total-one     == what the operands of a record add to a total over the stack
 --   total-single             == the total over a stack of one operand
@@ -34,8 +35,8 @@ join Or x y = OR x y
 join Xor x y = XO x y
 join Not x y = NO x
 
-abbrev pub node : ℕ → Kind → Operand → Operand → Operand
-node p k x y = record { tree = join k (x .tree) (y .tree); start = begun k p (x .start) }
+abbrev pub built : ℕ → Kind → Operand → Operand → Operand
+built p k x y = record { tree = join k (x .tree) (y .tree); start = begun k p (x .start) }
 
 abbrev pub firstOf : Kind → Operand → ℕ
 firstOf (Constant b) x = 0
@@ -91,11 +92,11 @@ abbrev pub leftBy : Kind → ℕ → List Operand → ℕ → Left
 leftBy k p ts base = record {
   first = firstOf k (operand ts base);
   second = secondOf k (operand ts (base + 1));
-  stack = node p k (operand ts base) (operand ts (base + 1)) ∷ drop (operandCount k) ts;
+  stack = built p k (operand ts base) (operand ts (base + 1)) ∷ drop (operandCount k) ts;
 }
 
 binary-enough : (k : Kind) (op : Tree → Tree → Tree) (p : ℕ) → ((x y : Operand) (ts : List Operand)
-    → binary op (y ∷ x ∷ ts) ≡ some (record { first = firstOf k x; second = secondOf k y; stack = node p k x y ∷ ts }))
+    → binary op (y ∷ x ∷ ts) ≡ some (record { first = firstOf k x; second = secondOf k y; stack = built p k x y ∷ ts }))
     → operandCount k ≡ 2 → (ts : List Operand) (base : ℕ) → base + 2 ≡ length ts → binary op ts ≡ some (leftBy k p ts base)
 binary-enough k op p law c [] base h = absurd (omega arith)
 binary-enough k op p law c (y ∷ []) base h = absurd (omega arith)

@@ -12,27 +12,28 @@
 --   walk-image, walk-begins              == one store keeps an array up with a record; so with where its operand begins
 --   walk-fits                            == a place of a walk fits in 16 bits
 --   walk-refused                         == where the reader refuses the record at the place, the expression is refused so
---   walk-end                             == at the end of the bytes one operand must be left
+--   walk-end                             == at the end of the bytes one operand must be left, of which the answer is made
+use mathlib.Core.Bool.{Bool, true, false, not}
 use mathlib.Core.List.{List, [], _∷_}
 use mathlib.Core.Option.{some}
 use mathlib.Core.Path.{_≡_, refl, sym, ap, _∙_}
 use Prim.Native.Nat.{ℕ, suc, _+_, _-_, _*_, _^_, _≤_, _<_}
 use native.Mathlib.Decide.{decLt}
 use native.Mathlib.Omega.{arith}
-use lib.Dec.{lit≤}
+use lib.Dec.{eqb, lit≤}
 use lib.ListN.{length, getD, drop, set, length-drop}
-use borrow.Author.Tests.{ne-eqb, le-ltb}
+use borrow.Author.Tests.{eqb-true, ne-eqb, le-ltb}
 use Rattle.bits.specs.Sum.{sum, total}
 use Rattle.rules.specs.Calls.{read}
-use Rattle.rules.specs.Limits.{recordLimit, ruleFlags}
+use Rattle.rules.specs.Limits.{recordLimit, ruleFlags, badEnd}
 use Rattle.rules.specs.Machine.{Operand, Turn, turn, finish, run, made, nodeFrom}
-use Rattle.rules.specs.Outcome.{gives, refuses}
+use Rattle.rules.specs.Outcome.{Outcome, gives, refuses, refuse, _then_}
 use Rattle.rules.specs.Record.{Kind, Found, operandCount}
 use Rattle.rules.specs.Tree.{Tree, size}
 use Rattle.laws.proofs.reading.Run.{turnOf, turn-read, run-turn, run-end, run-refused, node-after}
 use Rattle.expr.proofs.ReadRecord.{Read}
 use Rattle.reader.specs.Inner.{operand, Image, Reached, begun, ended}
-use Rattle.reader.proofs.Stack.{join, node, leftBy, push-enough, sizeOf, size-push, image-push, begun-none}
+use Rattle.reader.proofs.Stack.{join, built, leftBy, push-enough, sizeOf, size-push, image-push, begun-none}
 
 pub record Walk (n : ℕ) (s : List ℕ) (count place depth : ℕ) : Type 0 where
   pub stack : List Operand
@@ -72,7 +73,7 @@ module _ {n : ℕ} {s : List ℕ} {count place depth : ℕ} (w : Walk n s count 
 
   -- the operand of a record of kind k that takes its operands from place base on
   abbrev pub grown : Kind → ℕ → Operand
-  grown k base = node place k (held base) (held (base + 1))
+  grown k base = built place k (held base) (held (base + 1))
 
   pub walk-fits : place < 2 ^ 16
   walk-fits = omega (arith, w .few, w .near)
@@ -86,10 +87,17 @@ module _ {n : ℕ} {s : List ℕ} {count place depth : ℕ} (w : Walk n s count 
   pub walk-refused : {k q : ℕ} → turn (recordLimit - count) n s place (w .stack) ≡ refuses k q → made n s ≡ refuses k q
   walk-refused {k} {q} e = w .runs ∙ run-refused (recordLimit - count) n s place (w .stack) k q e
 
-  pub walk-end : length s ≤ place → made n s ≡ ended depth (length s) (gives (held 0 .tree))
-  walk-end h =
-      w .runs ∙ run-end (recordLimit - count) n s place (w .stack) h ∙ finish-ended (length s) (w .stack)
-      ∙ ap (λ (k : ℕ). ended k (length s) (gives (held 0 .tree))) (w .deep)
+  pub walk-end : {B : Type 0} (g : Tree → Outcome B) (o : Outcome B) → length s ≤ place → (length (w .stack) ≡ 1 → g (held 0 .tree) ≡ o)
+      → made n s then g ≡ ended depth (length s) o
+  walk-end {B} g o h is =
+      ap (λ (x : Outcome Tree). x then g)
+      (w .runs ∙ run-end (recordLimit - count) n s place (w .stack) h ∙ finish-ended (length s) (w .stack)
+      ∙ ap (λ (k : ℕ). ended k (length s) (gives (held 0 .tree))) (w .deep))
+      ∙ go (eqb depth 1) refl
+    where
+      go : (b : Bool) → eqb depth 1 ≡ b → refuse (not b) badEnd (length s) (gives (held 0 .tree)) then g ≡ refuse (not b) badEnd (length s) o
+      go true q = is (w .deep ∙ eqb-true depth 1 q)
+      go false q = refl
 
   module _ {r : Found} (f : Read n s place r) (l : count < recordLimit) (base : ℕ) (h : base + operandCount (r .kind) ≡ depth) where
     abbrev left : Turn

@@ -4,7 +4,7 @@
 --   Reached n s starts depth place count
 --                        == a walk has read count records of s up to a place: what the reader answers from there on goes by the stack that they
 --                           leave, of depth operands, whose first bytes are starts
---   startAt a d i        == the entry i of the array a, or 0 where only d of its entries hold a start
+--   startAt a d i        == entry i of the array a, 0 where i is not among its first d
 --   nodeOver r a d       == the record r over d operands, whose first bytes are the array a
 --   begun k p x          == where the operand that a record of kind k at place p leaves begins, if its first operand begins at x
 --   ended d len o        == the answer o at the end of len bytes, where d operands are left
@@ -51,7 +51,7 @@ nodeOver r a d = record {
   next = r .next;
 }
 
--- a record with no operand begins its own, and any other where its first operand begins
+-- the operand of a record with no operand begins with the record, and any other with the record's first operand
 abbrev pub begun : Kind → ℕ → ℕ → ℕ
 begun k p x = begin (operandCount k)
   where

@@ -47,7 +47,7 @@ pub fn read(flags: usize, bytes: &[u8], place: usize) -> Reading
     find(flags, bytes, place)
 }
 
-// The same past row 1: the records from byte 0 on, up to the place.
+// The same past row 1: the records from byte 0 on, up to the place. A record begins before byte 3 · 385, which fits 16 bits.
 fn find(flags: usize, bytes: &[u8], place: usize) -> Reading
     requires { ⌜ flags ≤ ruleFlags ⌝ }
     ensures { λ r. ⌜ readingOf r ≡ Calls.read flags (now (bytes .entry)) place ⌝ }
@@ -74,7 +74,8 @@ fn find(flags: usize, bytes: &[u8], place: usize) -> Reading
     step(flags, bytes, &starts, depth, at, count)
 }
 
-// The reader's answer for a walk that has read `count` records up to a place: they leave `depth` operands, whose first bytes are `starts`.
+// The reader's answer for a walk that has read `count` records up to a place: they leave `depth` operands, whose first
+// bytes `starts` holds, the lowest operand's first.
 pub fn step(
     flags: usize,
     bytes: &[u8],

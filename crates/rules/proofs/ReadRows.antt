@@ -5,15 +5,16 @@
 use mathlib.Core.Bool.{Bool, true, false, _&&_}
 use mathlib.Core.List.{List, [], _∷_}
 use mathlib.Core.Option.{none, some}
-use mathlib.Core.Path.{refl}
+use mathlib.Core.Path.{_≡_, refl}
 use Prim.Native.Nat.{ℕ}
+use native.Mathlib.Omega.{arith}
 use Prim.Native.String.{String}
 use lib.Dec.{T, eqb, lit<}
 use Rattle.bits.specs.Range.{all}
 use Rattle.rules.specs.Ascii.{ascii}
 use Rattle.rules.specs.Calls.{read}
 use Rattle.rules.specs.Machine.{nodeFrom}
-use Rattle.rules.specs.Nodes.{Placed, nodes, sought, Spanned}
+use Rattle.rules.specs.Nodes.{Placed, Spanned, Whole, nodes, sought}
 use Rattle.rules.specs.Outcome.{gives, refuses}
 use Rattle.rules.specs.Record.{Constant, Flag, And, Or, Xor, Not, operandCount}
 use Rattle.rules.specs.Tree.{Tree, CO, VA, AN, OR, XO, NO}
@@ -39,6 +40,7 @@ pub operator-rows :
     isRecord "AN" 0 3 8 (read 2 (bytesOf "VA0 VA1 AN") 6)
     && isRecord "OR" 0 3 8 (read 2 (bytesOf "VA0 VA1 OR") 6)
     && isRecord "XO" 0 3 8 (read 2 (bytesOf "VA0 VA1 XO") 6)
+    && isRecord "XO" 0 3 8 (read 2 (bytesOf "VA0 CO1 XO") 6)
     && isRecord "NO" 0 0 5 (read 2 (bytesOf "VA0 NO CO1") 3)
     && isRecord "NO" 8 0 13 (read 2 (bytesOf "VA0 VA1 XO VA0 NO OR") 11)
     && isRecord "OR" 0 8 15 (read 2 (bytesOf "VA0 VA1 XO VA0 NO OR") 13)
@@ -96,6 +98,11 @@ pub refused-rows :
 unfolding computing refusedAt isRecord bytesOf
 refused-rows = tt
 
+-- row 1 comes first, at place 0, whatever the bytes and the place
+pub flag-rows : T (isRefusal 1 0 (read 7 (ascii "?") 3) && isRefusal 1 0 (read 7 (bytesOf "VA0") 3) && isRefusal 1 0 (read 7 (bytesOf "VA0") 1))
+unfolding computing isRefusal bytesOf
+flag-rows = tt
+
 -- "by rows 9, 6, 7, 8": where no more records may begin, one that does is refused, also where it is no record and from behind it; the end is still
 -- the end, and a place inside the last record is still no record. The 385th and the 386th record are in laws' LongRows.
 pub many-rows :
@@ -107,6 +114,7 @@ pub many-rows :
     && isRefusal 9 5 (nodeFrom 1 1 (bytesOf "VA0 NO NO") 5 3 flagFirst)
     && isEnd (nodeFrom 0 1 (bytesOf "VA0") 3 3 flagFirst)
     && isRefusal 8 2 (nodeFrom 0 1 (bytesOf "VA0") 2 3 flagFirst)
+    && isRefusal 8 2 (nodeFrom 0 1 (bytesOf "VA0 NO") 2 3 flagFirst)
     )
 unfolding computing isRefusal isRecord isEnd bytesOf
 many-rows = tt
@@ -142,7 +150,7 @@ unfoldable pub exampleTree : Tree
 exampleTree = OR (XO (VA 0) (VA 1)) (NO (VA 0))
 
 -- "writing each node's operands, first to last, and then the node", with each record's place: "VA0 VA1 XO VA0 NO OR" from byte 0, and "CO1 NO CO0 AN"
--- from byte 13
+-- and "CO1 VA0 CO0 OR XO" from byte 13
 pub nodes-rows :
     T (
     inTurn (
@@ -151,6 +159,9 @@ pub nodes-rows :
     (nodes 0 exampleTree)
     && inTurn (isPlaced 13 "CO1" 0 0 16 ∷ isPlaced 16 "NO" 13 0 18 ∷ isPlaced 18 "CO0" 0 0 21 ∷ isPlaced 21 "AN" 13 18 23 ∷ [])
     (nodes 13 (AN (NO (CO true)) (CO false)))
+    && inTurn (
+    isPlaced 13 "CO1" 0 0 16 ∷ isPlaced 16 "VA0" 0 0 19 ∷ isPlaced 19 "CO0" 0 0 22 ∷ isPlaced 22 "OR" 16 19 24 ∷ isPlaced 24 "XO" 13 16 26 ∷ [])
+    (nodes 13 (XO (CO true) (OR (VA 0) (CO false))))
     )
 unfolding computing inTurn isPlaced exampleTree
 nodes-rows = tt
@@ -179,20 +190,20 @@ sought-rows = tt
 pub spanned-row : Spanned 2 (bytesOf "VA0 VA1 AN") 6 And 0 3
 unfolding computing bytesOf
 spanned-row = record {
-  left = VA 0;
-  right = VA 1;
-  whole = record { some = lit< tt; written = refl; formed = refl };
-  rest = record { some = lit< tt; written = refl; formed = refl };
+  one = VA 0;
+  other = VA 1;
+  one-whole = record { nonempty = lit< tt; written = refl; formed = refl };
+  other-whole = record { nonempty = lit< tt; written = refl; formed = refl };
 }
 
 -- operands of several records: VA0 VA1 XO before VA0 NO
 pub spanned-several : Spanned 2 (bytesOf "VA0 VA1 XO VA0 NO OR") 13 Or 0 8
 unfolding computing bytesOf
 spanned-several = record {
-  left = XO (VA 0) (VA 1);
-  right = NO (VA 0);
-  whole = record { some = lit< tt; written = refl; formed = refl };
-  rest = record { some = lit< tt; written = refl; formed = refl };
+  one = XO (VA 0) (VA 1);
+  other = NO (VA 0);
+  one-whole = record { nonempty = lit< tt; written = refl; formed = refl };
+  other-whole = record { nonempty = lit< tt; written = refl; formed = refl };
 }
 
 -- VA0 VA1 OR, with another operand before it
@@ -200,6 +211,39 @@ pub spanned-not : Spanned 2 (bytesOf "CO1 VA0 VA1 OR NO XO") 11 Not 3 0
 unfolding computing bytesOf
 spanned-not = record {
   operand = OR (VA 0) (VA 1);
-  whole = record { some = lit< tt; written = refl; formed = refl };
-  other = refl;
+  whole = record { nonempty = lit< tt; written = refl; formed = refl };
+  no-other = refl;
 }
+
+pub spanned-xor : Spanned 2 (bytesOf "CO1 VA0 VA1 XO AN") 9 Xor 3 6
+unfolding computing bytesOf
+spanned-xor = record {
+  one = VA 0;
+  other = VA 1;
+  one-whole = record { nonempty = lit< tt; written = refl; formed = refl };
+  other-whole = record { nonempty = lit< tt; written = refl; formed = refl };
+}
+
+-- bytes that no tree writes are no operand, a leaf and NO have no second one, and a leaf no first
+pub cut-operand : ¬ Spanned 2 (bytesOf "VA0 VA1 AN") 6 And 0 2
+unfolding computing bytesOf
+cut-operand h =
+    let e : refuses 7 0 ≡ gives (h .one) = h .one-whole .formed in
+    let z : _≡_ {A = ℕ} 0 1 = cc in
+    omega arith
+
+pub flag-not-below : ¬ Whole 1 (bytesOf "VA1") 0 3 (VA 1)
+unfolding computing bytesOf
+flag-not-below h =
+    let e : refuses 7 0 ≡ gives (VA 1) = h .formed in
+    let z : _≡_ {A = ℕ} 0 1 = cc in
+    omega arith
+
+pub leaf-operand : ¬ Spanned 2 (bytesOf "VA0 VA1 AN") 3 (Flag 1) 3 0
+leaf-operand h = omega (arith, h .0)
+
+pub leaf-second : ¬ Spanned 2 (bytesOf "VA0 VA1 AN") 3 (Flag 1) 0 3
+leaf-second h = omega (arith, h .1)
+
+pub negation-second : ¬ Spanned 2 (bytesOf "VA0 NO") 3 Not 0 3
+negation-second h = omega (arith, h .no-other)

@@ -8,7 +8,7 @@
 --   listing n ws room, terms a           == the constant and the monomials in their order, and the raw form's terms of such a listing
 --   rawCosting n ws                      == the raw form's cost
 --   compile n table room                 == the compiler: the bytes of `compiled n table` with their counts and costs
---   read n s at, parse n s               == the record at a place, with where its operands begin, and the tree of all records
+--   read n s place, parse n s            == the record at a place, with where its operands begin, and the tree of all records
 --   evaluate n s at, costing n s         == the value at a setting, and cost, size and depth
 --   evaluateStars n ws s                 == the values for 64 stars
 --   cheaperOfTwo n a b                   == the cheaper of two expressions, or nothing; cheaperOf chooses alike of whatever stands for the two
@@ -124,7 +124,7 @@ compile n table room =
 -- that place, it answers the end", which is none. Request 5 adds "the first byte of each operand" and has the records read "from byte 0 by rows 9, 6,
 -- 7, 8".
 unfoldable pub read : ℕ → List ℕ → ℕ → Outcome (Option Node)
-read n s at = refuse (ltb ruleFlags n) tooManyFlags 0 (nodeFrom recordLimit n s at 0 [])
+read n s place = refuse (ltb ruleFlags n) tooManyFlags 0 (nodeFrom recordLimit n s place 0 [])
 
 -- an expression's tree
 unfoldable pub parse : ℕ → List ℕ → Outcome Tree

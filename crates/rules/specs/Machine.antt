@@ -3,13 +3,15 @@
 --   Operand              == an operand on the stack: its tree, and its first byte
 --   Node                 == a record that was read: its kind with payload, the first byte of its first and of its second operand, each 0 where there
 --                           is none, and the next place
---   push k p os          == what a record of kind k that begins at byte p leaves of the stack os: where the operands that it takes begin, and the
+--   Left, push k p os    == what a record of kind k that begins at byte p leaves of the stack os: where the operands that it takes begin, and the
 --                           stack after it, or none where an operand is lacking
---   turn k n s p os      == the record that begins at byte p of s with n flags, over the stack os, when at most k more may begin: the node and the
---                           stack after it, or its refusal by rows 9, 6, 7, 8; none where no byte is left
---   made n s             == the tree of the bytes s with n flags, or the refusal by rows 9, 6, 7, 8 record by record and then 10
+--   Turn, recordTurn n s p os == a node and the stack after it: the record that begins at byte p of s with n flags, or its refusal by rows 6, 7, 8
+--   turn k n s p os      == the same when at most k more records may begin, and so by row 9 too; none where no byte is left
+--   finish, onward       == what is answered at the end of the records; and what there and after a record
+--   run, made n s        == the tree of the bytes s with n flags, or the refusal by rows 9, 6, 7, 8 record by record and then 10
 --   WellFormed n s       == s is an expression of n flags
---   nodeFrom k n s at p os == the record that begins at byte at, where the records are read from byte p on
+--   nodeFrom k n s at p os == what the reader answers for the place at, where it has read up to byte p with the stack os and at most k more records
+--                           may begin
 use mathlib.Core.Bool.{true, false}
 use mathlib.Core.List.{List, [], _∷_}
 use mathlib.Core.Option.{Option, none, some}
@@ -40,7 +42,7 @@ pub record Left : Type 0 where
   pub second : ℕ
   pub stack : List Operand
 
--- a record with no operand begins where its operand does
+-- a record that takes no operand leaves one that begins at the record's own first byte
 unfoldable pub leaf : Tree → ℕ → List Operand → Option Left
 leaf t p os = some (record { first = 0; second = 0; stack = record { tree = t; start = p } ∷ os })
 
@@ -74,16 +76,16 @@ pub record Turn : Type 0 where
   pub stack : List Operand
 
 -- rows 6, 7 and 8
-unfoldable pub recordTurn : ℕ → List ℕ → ℕ → List Operand → Outcome (Option Turn)
+unfoldable pub recordTurn : ℕ → List ℕ → ℕ → List Operand → Outcome Turn
 recordTurn n s p os =
     recordAt n s p then (λ r.
     operands p (push (r .kind) p os) then (λ l.
-    gives (some (record { node = record { kind = r .kind; first = l .first; second = l .second; next = r .next }; stack = l .stack }))))
+    gives (record { node = record { kind = r .kind; first = l .first; second = l .second; next = r .next }; stack = l .stack })))
 
 -- "Rows 9, 6, 7, 8 run record by record": "a 386th record begins" is refused at its first byte
 unfoldable pub turn : ℕ → ℕ → List ℕ → ℕ → List Operand → Outcome (Option Turn)
 turn zero n s p os = elim (ltb p (length s)) [ true ↦ refuses manyRecords p | false ↦ gives none ]
-turn (suc k) n s p os = elim (ltb p (length s)) [ true ↦ recordTurn n s p os | false ↦ gives none ]
+turn (suc k) n s p os = elim (ltb p (length s)) [ true ↦ recordTurn n s p os then (λ t. gives (some t)) | false ↦ gives none ]
 
 -- ---- all records
 
@@ -98,7 +100,7 @@ abbrev pub onward : {A : Type 0} → A → (Turn → A) → Option Turn → A
 onward end more none = end
 onward end more (some t) = more t
 
--- from byte p with the stack os, when at most k more records may begin
+-- from byte p with the stack os, when at most k more records may begin; where none may, the turn gives none or refuses
 unfoldable pub run : ℕ → ℕ → List ℕ → ℕ → List Operand → Outcome Tree
 run zero n s p os = turn zero n s p os then (λ o. finish (length s) os)
 run (suc k) n s p os = turn (suc k) n s p os then onward (finish (length s) os) (λ t. run k n s (t .node .next) (t .stack))
@@ -114,7 +116,7 @@ WellFormed n s = (t : Tree) × (made n s ≡ gives t)
 
 -- request 5: "it reads the records from byte 0 by rows 9, 6, 7, 8, and the refusal of a record that begins before the place comes first. Number 8
 -- also meets, and gives, a place below the byte length that is not the first byte of a record; at or past the length is the end, unless an earlier
--- record is refused.": a record that begins behind the place leaves it inside the record before
+-- record is refused.": records are read up to byte p, so that a place before p that was not found is inside the record that ends at p
 unfoldable pub nodeFrom : ℕ → ℕ → List ℕ → ℕ → ℕ → List Operand → Outcome (Option Node)
 nodeFrom zero n s at p os = refuse (ltb at p) fewOperands at (turn zero n s p os then (λ o. gives none))
 nodeFrom (suc k) n s at p os =

@@ -1,11 +1,13 @@
 -- What the reader's answers are shown to be: the records of a tree as its bytes hold them, and the operands of a record as parts of the bytes. They
 -- are in no call's definition; the theorems are in laws (reading/TreeNodes and reading/Operands).
 --   Placed           == a record with the byte at which it begins
+--   placed, behind   == a record of so many bytes at a place; the byte behind a tree that begins at a place
 --   nodes p t        == the records of the tree t, first to last, where its bytes begin at byte p
 --   sought at l end  == of records l in the order of their places the one that begins at byte at; a place before the next of them is refused, and
 --                       behind them all the answer is end
 --   Whole n s a b t  == the bytes of s from a up to b are the tree t whole: they are what t writes, and well formed by themselves
---   Spanned n s p k a b == a record of kind k at byte p has operands that begin at bytes a and b, as many as the kind has, and each is whole
+--   Two, One, Spanned n s p k a b == a record of kind k at byte p has operands that begin at bytes a and b, as many as the kind has, each whole, and
+--                       0 stands for one that it has not
 use mathlib.Core.Bool.{true, false}
 use mathlib.Core.List.{List, [], _∷_, _++_}
 use mathlib.Core.Option.{Option, some}
@@ -51,21 +53,21 @@ sought at (m ∷ l) end =
 -- ---- operands as parts of the bytes
 
 pub record Whole (n : ℕ) (s : List ℕ) (a b : ℕ) (t : Tree) : Type 0 where
-  pub some : a < b
+  pub nonempty : a < b
   pub written : part s a (b - a) ≡ write t
   pub formed : made n (part s a (b - a)) ≡ gives t
 
 -- request 5: "The bytes between the two starts are the first operand whole.": those from the second start up to the record are the second
 pub record Two (n : ℕ) (s : List ℕ) (p first second : ℕ) : Type 0 where
-  pub left : Tree
-  pub right : Tree
-  pub whole : Whole n s first second left
-  pub rest : Whole n s second p right
+  pub one : Tree
+  pub other : Tree
+  pub one-whole : Whole n s first second one
+  pub other-whole : Whole n s second p other
 
 pub record One (n : ℕ) (s : List ℕ) (p first second : ℕ) : Type 0 where
   pub operand : Tree
   pub whole : Whole n s first p operand
-  pub other : second ≡ 0
+  pub no-other : second ≡ 0
 
 abbrev pub Spanned : ℕ → List ℕ → ℕ → Kind → ℕ → ℕ → Type 0
 Spanned n s p (Constant b) first second = (first ≡ 0) × (second ≡ 0)

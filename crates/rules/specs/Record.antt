@@ -1,5 +1,6 @@
 -- One record of an expression's bytes.
 --   Kind             == what a record is, with its payload
+--   Found            == a record with its kind, and the next place
 --   FlagBelow n k    == a record of the kind names no flag at n or above
 --   operandCount k   == how many operands a record of the kind has
 --   recordAt n s p   == the record that begins at byte p of s with n flags: its kind and the next place, or the refusal of its mark or payload

@@ -9,7 +9,7 @@ use borrow.Author.Needs.{needs}
 use Rattle.rules.specs.Limits.{recordLimit}
 use Rattle.expr.specs.Answers.{kindOf}
 use Rattle.expr.proofs.ReadRecord.{read-index}
-use Rattle.reader.proofs.Turn.{Stepped, turn-found, turn-end, turn-refused}
+use Rattle.reader.proofs.Turn.{Stepped, answer-found, answer-end, answer-refused}
 use Rattle.reader.proofs.Walk.{walk-fits}
 use Rattle.evaluation.proofs.Packed.{Packing, packing-start, packing-low, packing-reached, packing-step, packing-end}
 use Rattle.evaluation.proofs.Values.{evaluated-refused}
@@ -51,14 +51,14 @@ returns-2 c =
     let l = turn r in
     let w = l .loop .inv in
     let past =
-    turn-end (w .walk) (start l .pre .0) (r .step .result) (c .before .before .match .keys2) (c .before .match2 .keys2) (r .step .ensures) in
+    answer-end (w .walk) (start l .pre .0) (r .step .result) (c .before .before .match .keys2) (c .before .match2 .keys2) (r .step .ensures) in
     c .finished .ensures ∙ sym (packing-end w past)
 
 returns-3 : tie.Need-returns-3 Inv-loop μ-loop
 returns-3 c =
     let r = c .before .before .before .before in
     let l = turn r in
-    sym (evaluated-refused _ _ _ _ _ (turn-refused (l .loop .inv .walk) (start l .pre .0) (c .before .answer2 .given .1) (r .step .ensures)))
+    sym (evaluated-refused _ _ _ _ _ (answer-refused (l .loop .inv .walk) (start l .pre .0) (c .before .answer2 .given .1) (r .step .ensures)))
 
 -- the record that the reader found
 found : (c : tie.After-answer Inv-loop μ-loop)
@@ -68,7 +68,7 @@ found : (c : tie.After-answer Inv-loop μ-loop)
     Stepped (a .flags) (now (a .bytes)) (l .loop .depth) (l .loop .place) (l .loop .count) (record { kind = kindOf (node .kind); next = node .next }))
 found c =
     let l = turn (c .before .before) in
-    turn-found (l .loop .inv .walk) (start l .pre .0) (c .answer .given .1) (c .before .before .step .ensures)
+    answer-found (l .loop .inv .walk) (start l .pre .0) (c .answer .given .1) (c .before .before .step .ensures)
 
 after-requires : tie.Need-after-requires Inv-loop μ-loop
 after-requires c κs =

@@ -7,8 +7,8 @@ use borrow.Author.Needs.{needs}
 use Rattle.rules.specs.Outcome.{_then_}
 use Rattle.rules.specs.Record.{plain}
 use Rattle.expr.specs.Answers.{foundOf}
-use Rattle.expr.specs.Inner.{recordOver}
-use Rattle.expr.proofs.Marks.{byMark, over, mark-unknown, over-short, over-mark, over-constant, over-flag}
+use Rattle.expr.specs.Inner.{over, recordOver}
+use Rattle.expr.proofs.Marks.{byMark, mark-unknown, over-short, over-mark, over-constant, over-flag}
 use Rattle.expr.proofs.record_at.Statement.{statement}
 use Rattle.expr.proofs.record_at.Tie as tie
 
@@ -25,7 +25,7 @@ start c = c .before .before .before .before .before
 by-mark : (c : tie.After-letters) (m : ℕ) → c .letters .result ≡ m
     → (let a = start c .args in
     recordOver (a .flags) (now (a .bytes)) (a .depth) (a .place)
-    ≡ byMark (a .flags) (now (a .bytes)) (a .place) m then over (a .flags) (now (a .bytes)) (a .place) (a .depth))
+    ≡ byMark (a .flags) (now (a .bytes)) (a .place) m then over (a .depth) (a .place))
 by-mark c m e =
     let a = start c .args in
     over-mark (a .flags) (now (a .bytes)) (a .place) (a .depth) m (omega arith) (sym (c .letters .ensures) ∙ e)
@@ -43,19 +43,19 @@ returns-3 c =
     ∙ sym (by-mark (c .before .before) 0x5641 (c .before .match .keys2) ∙ over-flag (a .flags) (now (a .bytes)) (a .place) (a .depth))
 
 returns-4 : tie.Need-returns-4
-unfolding byMark over plain
+unfolding byMark plain
 returns-4 c = c .operator .ensures ∙ sym (by-mark (c .before .before) 0x414e (c .before .match .keys3))
 
 returns-5 : tie.Need-returns-5
-unfolding byMark over plain
+unfolding byMark plain
 returns-5 c = c .operator2 .ensures ∙ sym (by-mark (c .before .before) 0x4f52 (c .before .match .keys4))
 
 returns-6 : tie.Need-returns-6
-unfolding byMark over plain
+unfolding byMark plain
 returns-6 c = c .operator3 .ensures ∙ sym (by-mark (c .before .before) 0x584f (c .before .match .keys5))
 
 returns-7 : tie.Need-returns-7
-unfolding byMark over plain
+unfolding byMark plain
 returns-7 c = c .operator4 .ensures ∙ sym (by-mark (c .before .before) 0x4e4f (c .before .match .keys6))
 
 returns-8 : tie.Need-returns-8

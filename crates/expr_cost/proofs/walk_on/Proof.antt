@@ -12,7 +12,7 @@ use Rattle.rules.specs.Limits.{recordLimit}
 use Rattle.rules.specs.Tree as tree
 use Rattle.expr.specs.Answers.{kindOf}
 use Rattle.reader.proofs.Costed.{Costed, costed-start, costed-reached, costed-less, costed-fits}
-use Rattle.reader.proofs.Turn.{Stepped, turn-found, turn-end, turn-refused}
+use Rattle.reader.proofs.Turn.{Stepped, answer-found, answer-end, answer-refused}
 use Rattle.reader.proofs.Walk.{walk-fits}
 use Rattle.expr_cost.proofs.Depth.{deepest-limit, depth-below, depth-step, depth-full}
 use Rattle.expr_cost.proofs.TreeCosts.{costing-refused, costing-end}
@@ -50,7 +50,7 @@ returns c =
     let m = c .before .before in
     let r = m .before .before in
     let l = turn r in
-    let past = turn-end (l .loop .inv .walk) (start l .pre .0) (r .step .result) (m .before .match .keys2) (m .match2 .keys2) (r .step .ensures) in
+    let past = answer-end (l .loop .inv .walk) (start l .pre .0) (r .step .result) (m .before .match .keys2) (m .match2 .keys2) (r .step .ensures) in
     costing-end (l .loop .inv) (start l .pre .0) past (c .finished .ensures)
 
 returns-2 : tie.Need-returns-2 Inv-loop μ-loop
@@ -58,7 +58,7 @@ returns-2 c =
     let r = c .before .before .before .before in
     let l = turn r in
     sym (costing-refused _ _ _ _ (start l .pre .0)
-    (turn-refused (l .loop .inv .walk) (start l .pre .0) (c .before .answer2 .given .1) (r .step .ensures)))
+    (answer-refused (l .loop .inv .walk) (start l .pre .0) (c .before .answer2 .given .1) (r .step .ensures)))
 
 -- the record that the reader found
 found : (c : tie.After-answer Inv-loop μ-loop)
@@ -69,7 +69,7 @@ found : (c : tie.After-answer Inv-loop μ-loop)
     (record { kind = kindOf (node .kind); next = node .next }))
 found c =
     let l = turn (c .before .before) in
-    turn-found (l .loop .inv .walk) (start l .pre .0) (c .answer .given .1) (c .before .before .step .ensures)
+    answer-found (l .loop .inv .walk) (start l .pre .0) (c .answer .given .1) (c .before .before .step .ensures)
 
 push-requires : tie.Need-push-requires Inv-loop μ-loop
 push-requires c κs =

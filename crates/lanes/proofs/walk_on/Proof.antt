@@ -13,7 +13,7 @@ use Rattle.rules.specs.Stars.{starValues}
 use Rattle.expr.specs.Answers.{kindOf}
 use Rattle.expr.proofs.ReadRecord.{read-index}
 use Rattle.reader.proofs.Costed.{Costed, costed-start, costed-reached, costed-less, costed-fits}
-use Rattle.reader.proofs.Turn.{Stepped, turn-found, turn-end, turn-refused}
+use Rattle.reader.proofs.Turn.{Stepped, answer-found, answer-end, answer-refused}
 use Rattle.reader.proofs.Walk.{walk-fits}
 use Rattle.lanes.specs.Inner.{appliedAt}
 use Rattle.lanes.proofs.InLanes.{lanes-step, seen-refused, seen-end}
@@ -56,7 +56,7 @@ returns c =
     let l = turn r in
     let w = l .loop .inv in
     let past =
-    turn-end (w .walk) (start l .pre .0) (r .step .result) (c .before .before .before .match .keys2) (c .before .before .match2 .keys2)
+    answer-end (w .walk) (start l .pre .0) (r .step .result) (c .before .before .before .match .keys2) (c .before .before .match2 .keys2)
     (r .step .ensures) in
     c .finished .ensures ∙ sym (seen-end _ _ w past)
 
@@ -64,7 +64,7 @@ returns-2 : tie.Need-returns-2 Inv-loop μ-loop
 returns-2 c =
     let r = c .before .before .before .before in
     let l = turn r in
-    sym (seen-refused _ _ _ (turn-refused (l .loop .inv .walk) (start l .pre .0) (c .before .answer2 .given .1) (r .step .ensures)))
+    sym (seen-refused _ _ _ (answer-refused (l .loop .inv .walk) (start l .pre .0) (c .before .answer2 .given .1) (r .step .ensures)))
 
 -- the record that the reader found
 found : (c : tie.After-answer Inv-loop μ-loop)
@@ -74,7 +74,7 @@ found : (c : tie.After-answer Inv-loop μ-loop)
     Stepped (a .flags) (now (a .bytes)) (l .loop .depth) (l .loop .place) (l .loop .count) (record { kind = kindOf (node .kind); next = node .next }))
 found c =
     let l = turn (c .before .before) in
-    turn-found (l .loop .inv .walk) (start l .pre .0) (c .answer .given .1) (c .before .before .step .ensures)
+    answer-found (l .loop .inv .walk) (start l .pre .0) (c .answer .given .1) (c .before .before .step .ensures)
 
 value-of-requires : tie.Need-value-of-requires Inv-loop μ-loop
 value-of-requires c κs =

@@ -106,8 +106,8 @@ module _ (P : ℕ → ℕ → Type 0) where
     turn-by zero p os = by-turn p (length s) _ _ (by .many p) tt
     turn-by (suc k) p os =
         by-turn p (length s) _ _
-        (λ h. by-step (recordAt n s p) _ (record-by n s p (by .mark p h) (by .payload p h))
-        (λ r. by-step (operands p (push (r .kind) p os)) _ (operands-by p (push (r .kind) p os) (by .few p h)) (λ l. tt))) tt
+        (λ h. by-step (recordTurn n s p os) _ (by-step (recordAt n s p) _ (record-by n s p (by .mark p h) (by .payload p h))
+        (λ r. by-step (operands p (push (r .kind) p os)) _ (operands-by p (push (r .kind) p os) (by .few p h)) (λ l. tt))) (λ t. tt)) tt
 
     run-by : (k p : ℕ) (os : List Operand) → By P (run k n s p os)
     unfolding run

@@ -1,10 +1,19 @@
--- Bounds on the flags that a tree names. It rests on the definitions of rules' Tree.
---   flags-more       == a larger bound holds too
---   flags-some       == every tree has a bound
+-- Bounds on the flags that a record and a tree name. It rests on the definitions of rules' Record and Tree.
+--   flag-more, flags-more    == a larger bound holds too, of a record and of a tree
+--   flags-some               == every tree has a bound
 use Prim.Native.Nat.{ℕ, suc, _+_, _≤_}
 use native.Mathlib.Nat.{le-refl}
 use native.Mathlib.Omega.{arith}
+use Rattle.rules.specs.Record.{Kind, Constant, Flag, And, Or, Xor, Not, FlagBelow}
 use Rattle.rules.specs.Tree.{Tree, CO, VA, AN, OR, XO, NO, FlagsBelow}
+
+pub flag-more : (n m : ℕ) → n ≤ m → (k : Kind) → FlagBelow n k → FlagBelow m k
+flag-more n m h (Constant b) f = tt
+flag-more n m h (Flag i) f = omega arith
+flag-more n m h And f = tt
+flag-more n m h Or f = tt
+flag-more n m h Xor f = tt
+flag-more n m h Not f = tt
 
 pub flags-more : (n m : ℕ) → n ≤ m → (t : Tree) → FlagsBelow n t → FlagsBelow m t
 flags-more n m h (CO b) f = tt

@@ -25,7 +25,7 @@ pub long-rows-hold : T (isRefusal 13 385 (examined (negated 384)) && isRefusal 9
 unfolding examined bytesOf negated isRefusal
 long-rows-hold = tt
 
--- the 385th record is read, from whatever stands behind it; the 386th is refused, also from behind, and a place inside the 385th is no record
+-- the 385th record is read, whatever stands behind it; the 386th is refused, also from behind, and a place inside the 385th is no record
 pub long-reads-hold :
     T (
     isRecord "NO" 0 0 771 (read 1 (negated 384) 769)

@@ -1,24 +1,23 @@
 -- The operands that the reader answers are whole: the bytes from one start up to the next, and from the last up to the record, are well formed by
--- themselves and give one tree each, as many as the record's kind has. It rests on RecordAt, Run, Stack and ReadBack, and wants bytes below 256, as
+-- themselves and give one tree each, as many as the record's kind has. It rests on Run, Stack, ReadBack and WellFormed, and wants bytes below 256, as
 -- those of a slice always are.
 --   whole            == the bytes of a tree, wherever they stand, are that tree whole
 --   Laid os          == every operand of the stack begins behind the bytes of those below it
---   Standing         == the machine at a byte: the stack's bytes are those before it, and its records leave so many of the most
---   Leaves, leaves   == a push takes as many operands as its kind has, each whole, and every operand on the stack still begins behind those below it
+--   Standing         == the machine at a byte: the stack's bytes are those before it, and with k more records there are at most 385
+--   Spans, push-spans == a push takes as many operands as its kind has, each whole, and every operand on the stack still begins behind those below it
 --   node-spanned     == such is what the reader finds from a byte on
 --   read-operands    == the operands of a record that was read are whole
 use mathlib.Core.List.{List, [], _∷_, _++_, append-assoc}
 use mathlib.Core.Option.{Option, none, some}
-use mathlib.Core.Path.{_≡_, refl, sym, ap, _∙_, subst}
+use mathlib.Core.Path.{_≡_, refl, sym, _∙_, subst}
 use Prim.Native.Nat.{ℕ, zero, suc, _+_, _-_, _≤_, _<_}
 use native.Mathlib.Decide.{decLt}
 use native.Mathlib.Omega.{arith}
-use lib.Dec.{ltb, lit<}
+use lib.Dec.{ltb}
 use lib.ListN.{length, drop, length-append}
 use lib.Seq.{take-at, drop-append-seam}
 use Rattle.bits.specs.Part.{part}
 use Rattle.bits.specs.Range.{Below}
-use Rattle.bits.proofs.Below.{below-getD}
 use Rattle.bits.proofs.Every.{Every}
 use Rattle.rules.specs.Calls.{read}
 use Rattle.rules.specs.Limits.{recordLimit, ruleFlags, tooManyFlags}
@@ -29,10 +28,10 @@ use Rattle.rules.specs.Record.{Kind, Constant, Flag, And, Or, Xor, Not}
 use Rattle.rules.specs.Tree.{Tree, CO, VA, AN, OR, XO, NO, size, write, FlagsBelow}
 use Rattle.laws.proofs.calls.Outcome.{not-both, none-some, refuse-gives}
 use Rattle.laws.proofs.reading.ReadBack.{made-write}
-use Rattle.laws.proofs.reading.RecordAt.{bytesOf, record-read}
 use Rattle.laws.proofs.reading.Run.{Taken, turn-taken, turn-full, turn-none, run-end}
 use Rattle.laws.proofs.reading.Run.{node-before, node-refused, node-end, node-after, node-here}
-use Rattle.laws.proofs.reading.Stack.{trees, writes, sizes, no-left, some-left, pushed}
+use Rattle.laws.proofs.reading.Stack.{trees, writes, sizes, no-left, some-left}
+use Rattle.laws.proofs.reading.WellFormed.{turn-adds}
 
 -- ---- an operand
 
@@ -44,7 +43,7 @@ whole n s t a b e f l =
     let w : part s (length a) (length (a ++ write t) - length a) ≡ write t = rw (e, append-assoc, drop-append-seam) (take-at (write t) b _ d) in
     let m : made n (write t) ≡ gives t = made-write n t f l in
     record {
-      some = elim (decLt 0 (length (write t))) [
+      nonempty = elim (decLt 0 (length (write t))) [
         | yes h ↦ omega (arith, length-append a (write t))
         | no h ↦ absurd (not-both (sym m ∙ run-end recordLimit n (write t) 0 [] (omega arith)))
       ];
@@ -66,7 +65,7 @@ pub record Standing (n : ℕ) (s : List ℕ) (k p : ℕ) (os : List Operand) : T
   pub records : sizes (trees os) + k ≤ recordLimit
   pub laid : Laid os
 
-pub record Leaves (n : ℕ) (s : List ℕ) (p : ℕ) (k : Kind) (l : Left) : Type 0 where
+pub record Spans (n : ℕ) (s : List ℕ) (p : ℕ) (k : Kind) (l : Left) : Type 0 where
   pub spanned : Spanned n s p k (l .first) (l .second)
   pub laid : Laid (l .stack)
 
@@ -84,35 +83,35 @@ module _ (n : ℕ) (s : List ℕ) (j p : ℕ) where
       (h .bytes ∙ append-assoc (writes (trees os) ++ write (x .tree)) (write (y .tree)) (drop p s)) (h .flags .1 .0) (omega arith))
 
   none-taken : (k : Kind) (t : Tree) → Spanned n s p k 0 0 → (os : List Operand) (l : Left) → leaf t p os ≡ some l → Standing n s j p os
-      → Leaves n s p k l
+      → Spans n s p k l
   unfolding leaf
-  none-taken k t d os l e h = subst (Leaves n s p k) (some-left e) (record { spanned = d; laid = (h .place, h .laid) })
+  none-taken k t d os l e h = subst (Spans n s p k) (some-left e) (record { spanned = d; laid = (h .place, h .laid) })
 
   two-taken : (k : Kind) (op : Tree → Tree → Tree) → ((a b : ℕ) → Two n s p a b → Spanned n s p k a b)
-      → (os : List Operand) (l : Left) → binary op os ≡ some l → Standing n s j p os → Leaves n s p k l
+      → (os : List Operand) (l : Left) → binary op os ≡ some l → Standing n s j p os → Spans n s p k l
   unfolding binary
   two-taken k op d [] l e h = no-left l e
   two-taken k op d (y ∷ []) l e h = no-left l e
   two-taken k op d (y ∷ x ∷ os) l e h =
       let i : Two n s p (x .start) (y .start) =
-      record { left = x .tree; right = y .tree; whole = next y x os h; rest = top y (x ∷ os) h } in
-      subst (Leaves n s p k) (some-left e) (record { spanned = d _ _ i; laid = h .laid .1 })
+      record { one = x .tree; other = y .tree; one-whole = next y x os h; other-whole = top y (x ∷ os) h } in
+      subst (Spans n s p k) (some-left e) (record { spanned = d _ _ i; laid = h .laid .1 })
 
-  one-taken : (op : Tree → Tree) (os : List Operand) (l : Left) → unary op os ≡ some l → Standing n s j p os → Leaves n s p Not l
+  one-taken : (op : Tree → Tree) (os : List Operand) (l : Left) → unary op os ≡ some l → Standing n s j p os → Spans n s p Not l
   unfolding unary
   one-taken op [] l e h = no-left l e
   one-taken op (x ∷ os) l e h =
-      let i : One n s p (x .start) 0 = record { operand = x .tree; whole = top x os h; other = refl } in
-      subst (Leaves n s p Not) (some-left e) (record { spanned = i; laid = h .laid })
+      let i : One n s p (x .start) 0 = record { operand = x .tree; whole = top x os h; no-other = refl } in
+      subst (Spans n s p Not) (some-left e) (record { spanned = i; laid = h .laid })
 
-  leaves : (k : Kind) (os : List Operand) (l : Left) → push k p os ≡ some l → Standing n s j p os → Leaves n s p k l
+  push-spans : (k : Kind) (os : List Operand) (l : Left) → push k p os ≡ some l → Standing n s j p os → Spans n s p k l
   unfolding push
-  leaves (Constant b) = none-taken (Constant b) (CO b) (refl, refl)
-  leaves (Flag i) = none-taken (Flag i) (VA i) (refl, refl)
-  leaves And = two-taken And AN (λ a b d. d)
-  leaves Or = two-taken Or OR (λ a b d. d)
-  leaves Xor = two-taken Xor XO (λ a b d. d)
-  leaves Not = one-taken NO
+  push-spans (Constant b) = none-taken (Constant b) (CO b) (refl, refl)
+  push-spans (Flag i) = none-taken (Flag i) (VA i) (refl, refl)
+  push-spans And = two-taken And AN (λ a b d. d)
+  push-spans Or = two-taken Or OR (λ a b d. d)
+  push-spans Xor = two-taken Xor XO (λ a b d. d)
+  push-spans Not = one-taken NO
 
 -- ---- a record that was found
 
@@ -124,18 +123,16 @@ module _ (n : ℕ) (s : List ℕ) (small : Below 256 s) where
   after-turn : (k p : ℕ) (os : List Operand) (u : Turn) → Taken n s p os u → Standing n s (suc k) p os
       → Standing n s k (u .node .next) (u .stack) × Answer n s p (u .node)
   after-turn k p os u g h =
-      let r = record-read n s p (g .found) (g .reads) in
-      let d = pushed (g .found .kind) p os (g .left) (g .pushes) in
-      let v = leaves n s (suc k) p (g .found .kind) os (g .left) (g .pushes) h in
-      subst (λ (x : Turn). Standing n s k (x .node .next) (x .stack) × Answer n s p (x .node)) (g .is) (
+      let d = turn-adds n s p os u g in
+      let v = push-spans n s (suc k) p (g .found .kind) os (g .left) (g .pushes) h in (
         record {
-          bytes = h .bytes ∙ rw (r .bytes (below-getD 256 s 0 (lit< tt) small (p + 1)), d .bytes, append-assoc);
-          place = omega (arith, ap length (d .bytes), length-append (writes (trees os)) (bytesOf (g .found .kind)));
-          flags = d .flags n (r .flag) (h .flags);
-          records = omega arith;
-          laid = v .laid;
+          bytes = h .bytes ∙ d .bytes small;
+          place = omega (arith, h .place, d .grows);
+          flags = d .flags (h .flags);
+          records = omega (arith, h .records, d .records);
+          laid = subst (λ (x : Turn). Laid (x .stack)) (g .is) (v .laid);
         },
-        v .spanned,
+        subst (λ (x : Turn). Answer n s p (x .node)) (g .is) (v .spanned),
       )
 
   module _ (at : ℕ) (r : Node) where

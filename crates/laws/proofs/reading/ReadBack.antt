@@ -1,5 +1,5 @@
 -- Reading back: the machine's turns over a tree's bytes read the records of that tree and leave it on the stack, wherever the bytes stand. It rests
--- on the reader's answers (RecordAt), the machine's turns (Run) and its stack (Stack).
+-- on the record at a place (RecordAt), the machine's turns (Run) and its stack (Stack).
 --   turns-tree       == where the rest begins with the bytes of t, the turns over them read the records of t and push t with its first byte
 --   run-whole        == bytes of one tree alone give it
 --   made-write       == so does `made`, for up to 385 records

@@ -1,4 +1,4 @@
--- What the reader answers at a place: where a whole record stands it is that record, and what is answered stood there. That its bytes are the
+-- What record begins at a place: where a record's bytes stand whole, `recordAt` gives it, and what it gives stood there. That its bytes are the
 -- record's wants a byte below 256, since a mark is two letters as one number; a slice of bytes always meets it. Beyond that it assumes nothing.
 --   bytesOf k                   == the bytes of a record
 --   bytesOf-long, bytesOf-short == two at least, and at most three
@@ -52,7 +52,7 @@ bytesOf-short Not = omega arith
 pub drop-past : (s : List ℕ) (p : ℕ) (x b : List ℕ) → drop p s ≡ x ++ b → drop (p + length x) s ≡ b
 drop-past s p x b e = sym (drop-drop (length x) p s) ∙ ap (drop (length x)) e ∙ drop-append-seam x b
 
--- the reader's answer by the mark m, the payload c, and whether fewer than two or three bytes are left
+-- `recordAt` by the mark m, the payload c, and whether fewer than two or three bytes are left
 abbrev seen : ℕ → ℕ → ℕ → ℕ → Bool → Bool → Outcome Found
 unfolding plain mark ascii
 seen n p m c short cut =

@@ -1,7 +1,7 @@
 -- Turns of the postfix machine: one ends, refuses, or reads a record, and several follow one another up to a place. What the machine makes of the
 -- bytes, and what the reader finds at a place, goes by these turns. It rests on the machine's definition.
 --   turnOf r l                       == the turn that reads the record r, which leaves l
---   nodeOf o                         == the node of a turn, none where it reads none
+--   turnNode o                         == the node of a turn, none where it reads none
 --   turn-end, turn-full              == no byte is left; a record too many is refused
 --   turn-bad, turn-few, turn-read    == a bad record is refused, and so is one that lacks operands; a good one is read
 --   Taken, turn-taken                == a record that a turn gives was read so
@@ -14,7 +14,7 @@
 --   run-gives                        == a result before the end came by a turn
 --   node-before, node-here, node-after, node-turns
 --                                    == what the reader finds at a place before the next record, at its first byte, behind it, and after turns
---   node-end                         == and where no byte is left
+--   node-refused, node-end           == and where the next record is refused, and no byte is left
 use mathlib.Core.Bool.{true, false}
 use mathlib.Core.List.{List, [], _∷_, _++_}
 use mathlib.Core.Option.{Option, none, some}
@@ -38,9 +38,9 @@ abbrev pub turnOf : Found → Left → Turn
 turnOf r l = record { node = record { kind = r .kind; first = l .first; second = l .second; next = r .next }; stack = l .stack }
 
 -- the node that a turn reads
-abbrev pub nodeOf : Option Turn → Option Node
-nodeOf none = none
-nodeOf (some t) = some (t .node)
+abbrev pub turnNode : Option Turn → Option Node
+turnNode none = none
+turnNode (some t) = some (t .node)
 
 -- ---- one turn
 
@@ -68,7 +68,7 @@ module _ (n : ℕ) (s : List ℕ) (p : ℕ) (os : List Operand) where
     turn-full = rw (lt-ltb p (length s) h, turn)
 
     module _ (k : ℕ) where
-      turn-record : turn (suc k) n s p os ≡ recordTurn n s p os
+      turn-record : turn (suc k) n s p os ≡ recordTurn n s p os then (λ t. gives (some t))
       unfolding turn
       turn-record = rw (lt-ltb p (length s) h, turn)
 
@@ -88,20 +88,17 @@ module _ (n : ℕ) (s : List ℕ) (p : ℕ) (os : List Operand) where
       pub turn-taken : (t : Turn) → turn (suc k) n s p os ≡ gives (some t) → Taken n s p os t
       unfolding recordTurn
       turn-taken t e =
-          let a = then-gives (recordAt n s p) _ (some t) (sym turn-record ∙ e) in
-          let b = then-gives (operands p (push (a .0 .kind) p os)) _ (some t) (a .2) in
-          record { found = a .0; left = b .0; reads = a .1; pushes = operands-gives p _ (b .0) (b .1); is = cc (b .2) }
-
-  record-some : recordTurn n s p os ≡ gives none → ⊥
-  unfolding recordTurn
-  record-some e =
-      let a = then-gives (recordAt n s p) _ none e in
-      let b = then-gives (operands p (push (a .0 .kind) p os)) _ none (a .2) in
-      none-some (sym (b .2))
+          let c = then-gives (recordTurn n s p os) _ (some t) (sym turn-record ∙ e) in
+          let a = then-gives (recordAt n s p) _ (c .0) (c .1) in
+          let b = then-gives (operands p (push (a .0 .kind) p os)) _ (c .0) (a .2) in
+          record { found = a .0; left = b .0; reads = a .1; pushes = operands-gives p _ (b .0) (b .1); is = cc (b .2, c .2) }
 
   pub turn-none : (k : ℕ) → turn k n s p os ≡ gives none → length s ≤ p
   turn-none zero e = elim (decLt p (length s)) [ yes h ↦ absurd (not-both (sym e ∙ turn-full h)) | no h ↦ omega arith ]
-  turn-none (suc k) e = elim (decLt p (length s)) [ yes h ↦ absurd (record-some (sym (turn-record h k) ∙ e)) | no h ↦ omega arith ]
+  turn-none (suc k) e = elim (decLt p (length s)) [
+    | yes h ↦ absurd (none-some (sym (then-gives (recordTurn n s p os) _ none (sym (turn-record h k) ∙ e) .2)))
+    | no h ↦ omega arith
+  ]
 
 -- ---- what the machine makes
 
@@ -157,7 +154,7 @@ module _ (n : ℕ) (s : List ℕ) (at p : ℕ) (os : List Operand) where
       let le : p ≤ at = omega arith in
       rw (le-ltb at p le, e, ne-eqb at p (λ q. omega arith))
 
-pub node-here : (k n : ℕ) (s : List ℕ) (p : ℕ) (os : List Operand) → nodeFrom k n s p p os ≡ turn k n s p os then (λ o. gives (nodeOf o))
+pub node-here : (k n : ℕ) (s : List ℕ) (p : ℕ) (os : List Operand) → nodeFrom k n s p p os ≡ turn k n s p os then (λ o. gives (turnNode o))
 unfolding nodeFrom
 node-here zero n s p os = rw (le-ltb p p (le-refl p)) (elim (decLt p (length s)) [
   | yes h ↦ rw (turn-full n s p os h)
@@ -167,7 +164,7 @@ node-here (suc k) n s p os = rw (le-ltb p p (le-refl p)) (go (turn (suc k) n s p
   where
     go : (o : Outcome (Option Turn))
         → (o then onward (gives none) (λ t. elim (eqb p p) [ true ↦ gives (some (t .node)) | false ↦ nodeFrom k n s p (t .node .next) (t .stack) ]))
-        ≡ (o then (λ u. gives (nodeOf u)))
+        ≡ (o then (λ u. gives (turnNode u)))
     go (gives none) = refl
     go (gives (some t)) = rw (eq-eqb p p refl)
     go (refuses j q) = refl

@@ -2,7 +2,7 @@
 -- the machine's turns over a tree's bytes (ReadBack), on the reader's answers after turns (Run), and on what is well formed (WellFormed).
 --   read-tree        == the reader's answer at any place, as one equation: the record of the tree that begins there, else refusal 8 or the end
 --   read-node        == at the first byte of a record of the tree it is that record
---   node-read        == a record that it answers is a record of the tree, at that byte
+--   only-nodes        == a record that it answers is a record of the tree, at that byte
 --   length-nodes     == the records of a tree are as many as its size
 use mathlib.Core.Bool.{Bool, true, false}
 use mathlib.Core.List.{List, [], _∷_, _++_, append-nil}
@@ -45,44 +45,44 @@ length-nodes p (NO x) = simp length-append (omega (arith, length-nodes p x))
 -- ---- records in the order of their places
 
 -- the places of the records ascend, from p up to below q
-data Within : ℕ → ℕ → List Placed → Type 0 where
-  done : {p q : ℕ} → p ≤ q → Within p q []
-  next : {p q : ℕ} {m : Placed} {l : List Placed} → p ≤ m .place → Within (suc (m .place)) q l → Within p q (m ∷ l)
+data Ascending : ℕ → ℕ → List Placed → Type 0 where
+  done : {p q : ℕ} → p ≤ q → Ascending p q []
+  next : {p q : ℕ} {m : Placed} {l : List Placed} → p ≤ m .place → Ascending (suc (m .place)) q l → Ascending p q (m ∷ l)
 
-within-from : {o p q : ℕ} {l : List Placed} → o ≤ p → Within p q l → Within o q l
-within-from h (done g) = done (le-trans h g)
-within-from h (next g w) = next (le-trans h g) w
+ascending-from : {o p q : ℕ} {l : List Placed} → o ≤ p → Ascending p q l → Ascending o q l
+ascending-from h (done g) = done (le-trans h g)
+ascending-from h (next g w) = next (le-trans h g) w
 
-within-append : {p q r : ℕ} {l k : List Placed} → Within p q l → Within q r k → Within p r (l ++ k)
-within-append (done g) w = within-from g w
-within-append (next g v) w = next g (within-append v w)
+ascending-append : {p q r : ℕ} {l k : List Placed} → Ascending p q l → Ascending q r k → Ascending p r (l ++ k)
+ascending-append (done g) w = ascending-from g w
+ascending-append (next g v) w = next g (ascending-append v w)
 
-within-last : {p q r : ℕ} {l : List Placed} (m : Placed) → Within p q l → q ≤ m .place → m .place < r → Within p r (l ++ m ∷ [])
-within-last m v h g = within-append v (next h (done g))
+ascending-last : {p q r : ℕ} {l : List Placed} (m : Placed) → Ascending p q l → q ≤ m .place → m .place < r → Ascending p r (l ++ m ∷ [])
+ascending-last m v h g = ascending-append v (next h (done g))
 
 -- the records of two operands, and then their operator of some bytes c
-within-two : (p : ℕ) (k : Kind) (x y : Tree) (c : List ℕ) → 0 < length c → Within p (behind p x) (nodes p x)
-    → Within (behind p x) (behind (behind p x) y) (nodes (behind p x) y)
-    → Within p (p + length (write x ++ write y ++ c))
+ascending-two : (p : ℕ) (k : Kind) (x y : Tree) (c : List ℕ) → 0 < length c → Ascending p (behind p x) (nodes p x)
+    → Ascending (behind p x) (behind (behind p x) y) (nodes (behind p x) y)
+    → Ascending p (p + length (write x ++ write y ++ c))
     (nodes p x ++ nodes (behind p x) y ++ placed (behind (behind p x) y) k p (behind p x) 2 ∷ [])
-within-two p k x y c h v w =
-    within-last (placed (behind (behind p x) y) k p (behind p x) 2) (within-append v w) (omega arith) (simp length-append (omega arith))
+ascending-two p k x y c h v w =
+    ascending-last (placed (behind (behind p x) y) k p (behind p x) 2) (ascending-append v w) (omega arith) (simp length-append (omega arith))
 
-nodes-within : (p : ℕ) (t : Tree) → Within p (behind p t) (nodes p t)
+nodes-ascending : (p : ℕ) (t : Tree) → Ascending p (behind p t) (nodes p t)
 unfolding nodes write ascii
-nodes-within p (CO b) = within-last (placed p (Constant b) 0 0 3) (done (le-refl p)) (omega arith) (omega arith)
-nodes-within p (VA i) = within-last (placed p (Flag i) 0 0 3) (done (le-refl p)) (omega arith) (omega arith)
-nodes-within p (AN x y) = within-two p And x y (ascii "AN") (lit< tt) (nodes-within p x) (nodes-within (behind p x) y)
-nodes-within p (OR x y) = within-two p Or x y (ascii "OR") (lit< tt) (nodes-within p x) (nodes-within (behind p x) y)
-nodes-within p (XO x y) = within-two p Xor x y (ascii "XO") (lit< tt) (nodes-within p x) (nodes-within (behind p x) y)
-nodes-within p (NO x) =
-    within-last (placed (behind p x) Not p 0 2) (nodes-within p x) (omega arith) (simp length-append (omega arith))
+nodes-ascending p (CO b) = ascending-last (placed p (Constant b) 0 0 3) (done (le-refl p)) (omega arith) (omega arith)
+nodes-ascending p (VA i) = ascending-last (placed p (Flag i) 0 0 3) (done (le-refl p)) (omega arith) (omega arith)
+nodes-ascending p (AN x y) = ascending-two p And x y (ascii "AN") (lit< tt) (nodes-ascending p x) (nodes-ascending (behind p x) y)
+nodes-ascending p (OR x y) = ascending-two p Or x y (ascii "OR") (lit< tt) (nodes-ascending p x) (nodes-ascending (behind p x) y)
+nodes-ascending p (XO x y) = ascending-two p Xor x y (ascii "XO") (lit< tt) (nodes-ascending p x) (nodes-ascending (behind p x) y)
+nodes-ascending p (NO x) =
+    ascending-last (placed (behind p x) Not p 0 2) (nodes-ascending p x) (omega arith) (simp length-append (omega arith))
 
-within-place : {p q : ℕ} {l : List Placed} {m : Placed} → Within p q l → List·Memᴰ m l → p ≤ m .place
-within-place (done g) i = absurd (List·Memᴰ·not-nil i)
-within-place (next g w) i = elim (List·Memᴰ·cases-cons i) [
+ascending-place : {p q : ℕ} {l : List Placed} {m : Placed} → Ascending p q l → List·Memᴰ m l → p ≤ m .place
+ascending-place (done g) i = absurd (List·Memᴰ·not-nil i)
+ascending-place (next g w) i = elim (List·Memᴰ·cases-cons i) [
   | inl e ↦ omega (arith, ap (λ (a : Placed). a .place) e)
-  | inr j ↦ omega (arith, within-place w j)
+  | inr j ↦ omega (arith, ascending-place w j)
 ]
 
 module _ (end : Outcome (Option Node)) where
@@ -96,11 +96,11 @@ module _ (end : Outcome (Option Node)) where
       let le : m .place ≤ at = omega arith in
       rw (le-ltb at (m .place) le, ne-eqb at (m .place) (λ e. omega arith), sought)
 
-  sought-member : {p q : ℕ} {l : List Placed} (m : Placed) → Within p q l → List·Memᴰ m l → sought (m .place) l end ≡ gives (some (m .node))
+  sought-member : {p q : ℕ} {l : List Placed} (m : Placed) → Ascending p q l → List·Memᴰ m l → sought (m .place) l end ≡ gives (some (m .node))
   sought-member m (done g) i = absurd (List·Memᴰ·not-nil i)
   sought-member m (next {m = x} {l = l} g w) i = elim (List·Memᴰ·cases-cons i) [
     | inl e ↦ sought-here (m .place) x l (ap (λ (a : Placed). a .place) e) ∙ rw e
-    | inr j ↦ sought-behind (m .place) x l (within-place w j) ∙ sought-member m w j
+    | inr j ↦ sought-behind (m .place) x l (ascending-place w j) ∙ sought-member m w j
   ]
 
   member-sought : (l : List Placed) (at : ℕ) (r : Node) → ¬ (end ≡ gives (some r)) → sought at l end ≡ gives (some r)
@@ -141,9 +141,9 @@ module _ (n : ℕ) (s : List ℕ) (t : Tree) (few : n ≤ ruleFlags) (small : Be
       (ap (sought at (nodes 0 t)) (at-end (recordLimit - size t) n s at (record { tree = t; start = 0 } ∷ [])))
 
   pub read-node : (m : Placed) → List·Memᴰ m (nodes 0 t) → read n s (m .place) ≡ gives (some (m .node))
-  read-node m i = read-tree (m .place) ∙ sought-member _ m (nodes-within 0 t) i
+  read-node m i = read-tree (m .place) ∙ sought-member _ m (nodes-ascending 0 t) i
 
-  pub node-read : (at : ℕ) (r : Node) → read n s at ≡ gives (some r) → List·Memᴰ (record { place = at; node = r }) (nodes 0 t)
-  node-read at r g =
+  pub only-nodes : (at : ℕ) (r : Node) → read n s at ≡ gives (some r) → List·Memᴰ (record { place = at; node = r }) (nodes 0 t)
+  only-nodes at r g =
       member-sought (refuse (ltb at (length s)) fewOperands at (gives none)) (nodes 0 t) at r
       (λ f. none-some (refuse-gives (ltb at (length s)) fewOperands at (gives none) (some r) f .1)) (sym (read-tree at) ∙ g)

@@ -1,5 +1,6 @@
 -- What the machine makes a tree of is what that tree writes, so that bytes and trees are two readings of one expression. It rests on RecordAt, Run,
 -- Stack and ReadBack. Where bytes are given they are to be below 256, as a slice of bytes always is; beyond that it assumes nothing.
+--   Adds, turn-adds            == a turn moves the bytes of one record to the stack, and adds one record and no flag but its own
 --   Ran, run-is                == a run that gives t: the stack's bytes and those left are t's
 --   Written, made-is, is-made  == `made` gives t exactly where t writes the bytes, has at most 385 records, and its flags are below n
 --   well-formed                == bytes are well formed exactly where there is such a tree
@@ -11,7 +12,7 @@ use Prim.Native.Nat.{ℕ, zero, suc, _+_, _≤_}
 use native.Mathlib.Decide.{decLt}
 use native.Mathlib.Omega.{arith}
 use lib.Dec.{lit<}
-use lib.ListN.{length, drop, drop-of-length-le}
+use lib.ListN.{length, drop, length-append, drop-of-length-le}
 use Rattle.bits.specs.Range.{Below}
 use Rattle.bits.proofs.Below.{below-getD}
 use Rattle.bits.proofs.Every.{Every}
@@ -22,9 +23,27 @@ use Rattle.rules.specs.Tree.{Tree, AN, size, write, FlagsBelow}
 use Rattle.laws.proofs.reading.FlagsBelow.{flags-some}
 use Rattle.laws.proofs.calls.Outcome.{gives-same, not-both}
 use Rattle.laws.proofs.reading.ReadBack.{run-whole, made-write}
-use Rattle.laws.proofs.reading.RecordAt.{record-read}
+use Rattle.laws.proofs.reading.RecordAt.{bytesOf, record-read}
 use Rattle.laws.proofs.reading.Run.{Taken, turn-taken, run-end, run-gives}
 use Rattle.laws.proofs.reading.Stack.{trees, writes, sizes, pushed}
+
+-- what a turn that reads a record adds to the stack
+pub record Adds (n : ℕ) (s : List ℕ) (p : ℕ) (os : List Operand) (u : Turn) : Type 0 where
+  pub bytes : Below 256 s → writes (trees os) ++ drop p s ≡ writes (trees (u .stack)) ++ drop (u .node .next) s
+  pub grows : length (writes (trees (u .stack))) + p ≡ length (writes (trees os)) + u .node .next
+  pub records : sizes (trees (u .stack)) ≡ suc (sizes (trees os))
+  pub flags : Every (FlagsBelow n) (trees os) → Every (FlagsBelow n) (trees (u .stack))
+
+pub turn-adds : (n : ℕ) (s : List ℕ) (p : ℕ) (os : List Operand) (u : Turn) → Taken n s p os u → Adds n s p os u
+turn-adds n s p os u g =
+    let r = record-read n s p (g .found) (g .reads) in
+    let d = pushed (g .found .kind) p os (g .left) (g .pushes) in
+    subst (Adds n s p os) (g .is) record {
+      bytes = λ small. rw (r .bytes (below-getD 256 s 0 (lit< tt) small (p + 1)), d .bytes, append-assoc);
+      grows = omega (arith, r .next, ap length (d .bytes), length-append (writes (trees os)) (bytesOf (g .found .kind)));
+      records = d .records;
+      flags = d .flags n (r .flag);
+    }
 
 -- the stack's bytes and the rest are those of t, in at most k further records
 pub record Ran (k n : ℕ) (s : List ℕ) (p : ℕ) (os : List Operand) (t : Tree) : Type 0 where
@@ -48,14 +67,8 @@ module _ (n : ℕ) (s : List ℕ) (t : Tree) where
   after-turn : Below 256 s → (k p : ℕ) (os : List Operand) (u : Turn) → Taken n s p os u → Ran k n s (u .node .next) (u .stack) t
       → Ran (suc k) n s p os t
   after-turn small k p os u g i =
-      let r = record-read n s p (g .found) (g .reads) in
-      let d = pushed (g .found .kind) p os (g .left) (g .pushes) in
-      let i' : Ran k n s (g .found .next) (g .left .stack) t = subst (λ (x : Turn). Ran k n s (x .node .next) (x .stack) t) (sym (g .is)) i in
-      record {
-        bytes = rw (r .bytes (below-getD 256 s 0 (lit< tt) small (p + 1)), ← append-assoc, ← d .bytes) (i' .bytes);
-        records = omega arith;
-        flags = λ f. i' .flags (d .flags n (r .flag) f);
-      }
+      let d = turn-adds n s p os u g in
+      record { bytes = d .bytes small ∙ i .bytes; records = omega (arith, d .records, i .records); flags = λ f. i .flags (d .flags f) }
 
   pub run-is : Below 256 s → (k p : ℕ) (os : List Operand) → run k n s p os ≡ gives t → Ran k n s p os t
   run-is small zero p os e = elim (decLt p (length s)) [

@@ -9,7 +9,7 @@ use Rattle.rules.specs.Calls as Calls
 use Rattle.expr.specs.Answers.{kindOf}
 use Rattle.reader.specs.Answers.{readingOf}
 use Rattle.reader.proofs.Finding.{Finding, finding-start, finding-step, finding-reached, finding-other, finding-inside}
-use Rattle.reader.proofs.Turn.{Stepped, turn-found}
+use Rattle.reader.proofs.Turn.{Stepped, answer-found}
 use Rattle.reader.proofs.Walk.{walk-fits}
 use Rattle.reader.proofs.find.Statement.{statement}
 use Rattle.reader.proofs.find.Tie as tie
@@ -52,7 +52,7 @@ found : (c : tie.After-answer Inv-loop μ-loop)
     Stepped (a .flags) (now (a .bytes)) (l .loop .depth) (l .loop .at) (l .loop .count) (record { kind = kindOf (node .kind); next = node .next }))
 found c =
     let l = turn (c .before .before) in
-    turn-found (l .loop .inv .walk) (start l .pre) (c .answer .given .1) (c .before .before .step .ensures)
+    answer-found (l .loop .inv .walk) (start l .pre) (c .answer .given .1) (c .before .before .step .ensures)
 
 sub-base : tie.Need-sub-base Inv-loop μ-loop
 sub-base c = omega (arith, c .arity .ensures, found (answered (c .before)) .enough)
