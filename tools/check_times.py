@@ -21,6 +21,7 @@ print("| version 0.2.1, before the requests of document 02 | 47 | 460 | 337 | 17
 print("| version 0.3.0, with 64 stars | 49 | 487 | 350 | 1954 |")
 print("| version 0.3.1, with a coefficient's place without dividing | 49 | 468 | 352 | 1927 |")
 print("| version 0.3.2, with the raw cost added in mask order | 49 | 454 | 358 | 1876 |")
+print("| version 0.4.0, with the rule package | 55 | 523 | 418 | 2231 |")
 print(f"| now | {len(proof)} | {sum(proof.values())} | {sum(edits.values())} | {sum(trials.values())} |\n")
 print("| Crate | Proof, s | Edits | Their checks, s |\n|---|---|---|---|")
 for crate in proof:
