@@ -1,6 +1,7 @@
 // The cleanup's choice: which of document 01's rules gives the cheapest expression for a form, and at what cost, after `cleanup_anf` and
 // `find_best_factor` of `anf_cleanup.rs`. Nothing is written here. The cleanup and the best-cube search call each other, and the form's total
 // literals fall from one cleanup to the next. It rests on `form` and on `search`.
+#![tactic(auto)]
 ghost use Rattle.std.specs.Prelude.{true, ◌≡◌, ◌<◌, ◌≤◌, length};
 ghost use Rattle.form.specs.Masks.{masks};
 ghost use Rattle.mask_words.specs.Lookup.{mask_count, lookup_words};

@@ -1,6 +1,7 @@
 // The compiler, after `build_anf_expr` of `anf_cleanup.rs`: a rule table's expression, written as postfix records. The cleanup decides and `emission`
 // follows its choices into a buffer of this call, so that the length is known before the first byte is written to the lent one. It rests on `table`,
 // `anf_cleanup` and `emission`.
+#![tactic(auto)]
 ghost use Rattle.std.specs.Prelude.{◌≡◌, ◌≤◌, length, take};
 ghost use Rattle.rules.specs.Calls;
 ghost use Rattle.rules.specs.Limits.{rule_flags};

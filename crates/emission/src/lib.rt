@@ -1,6 +1,7 @@
 // Writing a choice: what it makes of the form, as postfix records at a cursor. The forms that it leaves to clean are written the same way, by the
 // choices that the plan has for them, and where a choice is left open the form is planned anew. Their total literals fall. It rests on `anf_cleanup`
 // and on `postfix`.
+#![tactic(auto)]
 ghost use Rattle.std.specs.Prelude.{◌≡◌};
 ghost use Rattle.anf_cleanup.specs.Plan.{built, Parts};
 ghost use Rattle.form.specs.Masks.{masks};

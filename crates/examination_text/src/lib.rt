@@ -1,6 +1,7 @@
 // The examination of a rule for people: the output of the examining command for its whole input, a line of a table's digits and a line of a rule's
 // records. It says whether the examiner accepts the rule, or in words which row of the refusal table refused it, and where.
 // It rests on `examiner` and on `text`.
+#![tactic(auto)]
 mod notation;
 mod verdict;
 

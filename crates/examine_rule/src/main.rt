@@ -1,4 +1,5 @@
 // The examining command: from standard input to standard output. It rests on `examining`.
+#![tactic(auto)]
 use libc::{STDIN_FILENO, STDOUT_FILENO};
 
 fn main() {

@@ -1,5 +1,6 @@
 // Records of an expression's bytes, after `expr.rs`: what a record is, and which one begins at a place by its mark, its payload and the number of
 // operands before it. It rests on the definitions of `rules`.
+#![tactic(auto)]
 ghost use Rattle.std.specs.Prelude.{◌≡◌, ◌+◌, ◌*◌, ◌<◌, length};
 ghost use Rattle.rules.specs.Record.{operand_count};
 ghost use Rattle.expr.specs.Answers.{found_of, kind_of};
@@ -21,7 +22,7 @@ const XO: u16 = 0x584f;
 const NO: u16 = 0x4e4f;
 
 // What a record is, with its payload.
-#[derive(Drop)]
+#[derive(Clone, Copy)]
 pub enum Kind {
     Constant(bool),
     Variable(u8),

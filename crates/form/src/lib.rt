@@ -1,6 +1,7 @@
 // A form of at most six flags by value: one word, whose bit m is the mask m and whose bit 0 is the constant. Whoever asks a form these questions need
 // not look at its word. Any set of masks is such a word; the cubes that a search tries are one too, walked by `first` and `rest`. It rests on
 // `mask_words`.
+#![tactic(auto)]
 ghost use Rattle.std.specs.Prelude.{not, [], ◌∷◌, map, ◌≡◌, ◌+◌, ◌*◌, ◌<◌, ◌≤◌, eqb, length, get_or, drop};
 ghost use Rattle.std.proofs.lemmas.List.Edits.{sets};
 ghost use Rattle.bits.specs.Bit.{bit, within, digit};
@@ -18,7 +19,7 @@ ghost use Rattle.form.specs.Masks.{masks};
 use mask_words::Lookup;
 
 // Without its lowest bit, `word & !1`, the word has the monomials alone.
-#[derive(Drop)]
+#[derive(Clone, Copy)]
 pub struct Form {
     pub word: u64,
 }

@@ -2,6 +2,7 @@
 // 0 for none, and stores its answer at the front of a lent block of 64-bit numbers: the results, or after a refusal the place alone. A static
 // library has the functions of one crate, so they stand here by their names for C; it rests on `c_tables`, `c_expressions` and `c_packages`, which
 // answer.
+#![tactic(auto)]
 ghost use Rattle.std.specs.Prelude.{◌≡◌, length};
 ghost use Rattle.compiler.specs.Answers.{bytes_of};
 ghost use Rattle.rules.specs.Calls;

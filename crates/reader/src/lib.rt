@@ -1,6 +1,7 @@
 // The reader of an expression's records: at a place it answers the record that begins there, with the first byte of each operand. It reads the
 // records from byte 0; `step` is the same for a walk over all of them, which keeps the first bytes of the operands so far (`keep`). It rests on
 // `expr` for a record's mark, payload and operands.
+#![tactic(auto)]
 ghost use Rattle.std.proofs.Math.Option.{some};
 ghost use Rattle.std.specs.Prelude.{◌≡◌, ◌^◌, ◌≤◌, ◌<◌, length, get_or, set};
 ghost use Rattle.rules.specs.Calls;

@@ -1,6 +1,7 @@
 // What the bytes of a recorded file say: numbers, outcomes, and lists of numbers as the library is lent them or must leave
 // them; and how much a table takes. It rests on `comparison` for the form of an outcome. Reading the file itself is in
 // `replay`.
+#![tactic(auto)]
 pub mod numbers;
 pub mod results;
 pub mod sizes;

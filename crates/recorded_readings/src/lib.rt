@@ -1,6 +1,7 @@
 // One reading of readings.bin: the flag count, a place, an expression, and the record that the documents find at the place, or the refusal. It rests
 // on the reader; the promise says that what is compared is the call on paper that the head's bytes ask. `replay_expressions` reads the file; its data
 // folder has the format.
+#![tactic(auto)]
 ghost use Rattle.std.proofs.Math.Option.{some};
 ghost use Rattle.std.specs.Prelude.{◌≡◌, ◌<◌};
 ghost use Rattle.rules.specs.Calls as paper;

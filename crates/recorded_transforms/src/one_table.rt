@@ -11,7 +11,7 @@ use comparison::outcome::Outcome;
 use recorded::sizes;
 use recorded::slices::{set_pattern, set_table};
 
-#[derive(Drop)]
+#[derive(Clone, Copy)]
 pub enum Way {
     There,
     Back,

@@ -3,6 +3,7 @@
 // the files named wrong, and those that the program itself makes wrong, differ on purpose, and the lines must say so. It
 // rests on `recorded_expressions`, `recorded_readings`, `recorded_stars` and `recorded_listings`, which compare; the formats
 // of the files are in data/README.md.
+#![tactic(auto)]
 mod cases;
 mod choices;
 mod costs;

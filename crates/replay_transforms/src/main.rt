@@ -2,6 +2,7 @@
 // that another program gave for them, and a line for each file and each way says how many were compared and how many
 // differ. The answers in the files named wrong differ on purpose, and the lines must say so. It rests on
 // `recorded_transforms`, which compares; the formats of the files are in data/README.md.
+#![tactic(auto)]
 mod files;
 mod refusals;
 

@@ -1,6 +1,7 @@
 // The documents as mathematics: specs/ has every definition of document 01, and of the requests of document 02 that are carried out but for a
 // package's rules, writer and reader, which are in `rule_package`, each beside the sentence that it renders, and proofs/ computes the documents' own
 // examples with them. The only code is what every call shares: the limits, and the refusal that an answer can hold. It rests on `bits`.
+#![tactic(auto)]
 
 // Limits: flags of a form (transform, way back, listing) and of a rule (all other calls), the records of an expression,
 // and the bytes that always suffice for one that is compiled.
