@@ -16,9 +16,9 @@ abbrev filled : Outcome (List ℕ) → Filled
 filled (gives l) = Entries (length l)
 filled (refuses k p) = Refused record { number = k; place = p }
 
-filled_of : (out : List ℕ) (f : Filled) → filled (filled_of out f) ≡ f
-filled_of out (Entries k) = ap Entries (length_front k out)
-filled_of out (Refused r) = refl
+filled-of : (out : List ℕ) (f : Filled) → filled (filled_of out f) ≡ f
+filled-of out (Entries k) = ap Entries (length_front k out)
+filled-of out (Refused r) = refl
 
 pub filled_of-injective : (out : List ℕ) (f g : Filled) → filled_of out f ≡ filled_of out g → f ≡ g
-filled_of-injective out = told-apart (filled_of out) filled (filled_of out)
+filled_of-injective out = told-apart (filled_of out) filled (filled-of out)

@@ -35,9 +35,9 @@ abbrev found : Outcome paper.Found → Found
 found (gives r) = Whole record { kind = kind r.kind; next = r.next }
 found (refuses k p) = Refused record { number = k; place = p }
 
-found_of : (f : Found) → found (found_of f) ≡ f
-found_of (Whole r) = ap (λ (k : Kind). Whole record { kind = k; next = r.next }) (kind-of r.kind)
-found_of (Refused r) = refl
+found-of : (f : Found) → found (found_of f) ≡ f
+found-of (Whole r) = ap (λ (k : Kind). Whole record { kind = k; next = r.next }) (kind-of r.kind)
+found-of (Refused r) = refl
 
 pub found_of-injective : (f g : Found) → found_of f ≡ found_of g → f ≡ g
-found_of-injective = told-apart found_of found found_of
+found_of-injective = told-apart found_of found found-of
