@@ -1,0 +1,13 @@
+-- `form::Form::coefficient` meets its contract: the shifted word's lowest digit is the mask's bit (bits, Quotient).
+use native.Mathlib.Omega.{arith}
+use Rattle.bits.specs.Range.{mem}
+use Rattle.bits.proofs.Bit.{digit-le}
+use Rattle.form.specs.Masks.{masks}
+use Rattle.form.proofs.WordOperations.{coefficient-word}
+use Rattle.form.proofs.Form.coefficient.Goals as goal
+
+pub returns : goal.returns
+returns c =
+    let a = c.args in
+    let e = coefficient-word a.self.word (omega arith) a.mask in
+    (e, omega (arith, e, digit-le (mem a.mask (masks a.self))))
