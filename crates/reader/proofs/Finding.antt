@@ -7,12 +7,10 @@
 --   finding-other        == where the step at an earlier byte gives no record, its answer is the one asked for
 --   finding-inside       == a place inside the record before is refused
 use mathlib.Core.List.{List}
-use mathlib.Core.Logic.{◌⊎◌, ⊎_elim}
-use mathlib.Core.Path.{◌≡◌, sym, ap, ◌∙◌}
+use mathlib.Core.Path.{◌≡◌, refl, sym, ap, ◌∙◌}
 use Prim.Native.Nat.{ℕ, ◌+◌, ◌-◌, ◌≤◌, ◌<◌}
 use native.Mathlib.Omega.{arith}
 use lib.ListN.{length, get_or, set, length-set}
-use denote.Enum.Declared.{tag_of}
 use borrow.Author.Tests.{le-ltb}
 use Rattle.rules.specs.Calls.{read}
 use Rattle.rules.specs.Limits.{record_limit, rule_flags, few_operands}
@@ -22,8 +20,8 @@ use Rattle.rules.specs.Record.{Found, operand_count}
 use Rattle.laws.proofs.reading.Run.{node-before}
 use Rattle.reader.specs.Answers.{reading_of}
 use Rattle.reader.specs.Inner.{Image, Reached, begun}
+use Rattle.reader.specs.declared.Node.{Node}
 use Rattle.reader.specs.declared.Reading.{Reading}
-use Rattle.reader.specs.contracts.Reading.{the_type}
 use Rattle.reader.proofs.Reader.{later-refused, later-end}
 use Rattle.reader.proofs.Stack.{image-empty}
 use Rattle.reader.proofs.Turn.{Stepped, answer-past}
@@ -61,9 +59,9 @@ module _ {n : ℕ} {s : List ℕ} {asked : ℕ} {starts : List ℕ} {depth at co
             ∙ ap (node_from (record_limit - (count + 1)) n s asked r.next) (sym (walk-stack w.walk f.stands f.more base h));
       }
 
-  pub finding-other : n ≤ rule_flags → at ≤ asked → (r : Reading) → (tag_of the_type r ≡ 1) ⊎ (tag_of the_type r ≡ 2)
+  pub finding-other : n ≤ rule_flags → at ≤ asked → (r : Reading) → ((x : Node) → r ≡ Reading.Found x → ⊥)
       → reading_of r ≡ read n s at → reading_of r ≡ read n s asked
-  finding-other l h (Reading.Found node) o e = absurd (⊎_elim (λ q. omega arith) (λ q. omega arith) o)
+  finding-other l h (Reading.Found node) o e = absurd (o node refl)
   finding-other l h Reading.End o e = sym (later-end (finding-reached l) asked h (answer-past w.walk l (sym e)))
   finding-other l h (Reading.Refused x) o e = sym (later-refused (finding-reached l) asked h x.number x.place (sym e))
 

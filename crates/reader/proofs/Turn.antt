@@ -4,7 +4,6 @@
 --   answer-past, answer-end      == the bytes end there, by the reader's answer and by the code's
 --   answer-refused             == the expression is refused so
 use mathlib.Core.List.{List}
-use mathlib.Core.Logic.{◌⊎◌, ⊎_elim}
 use mathlib.Core.Option.{Option, none, some}
 use mathlib.Core.Path.{◌≡◌, refl, sym, ap, ◌∙◌, subst}
 use Prim.Native.Nat.{ℕ, zero, suc, ◌-◌, ◌≤◌, ◌<◌}
@@ -12,7 +11,6 @@ use native.Mathlib.Decide.{dec_lt}
 use native.Mathlib.Nat.{le_refl}
 use native.Mathlib.Omega.{arith}
 use lib.ListN.{length}
-use denote.Enum.Declared.{tag_of}
 use borrow.Author.Tests.{le-ltb}
 use Rattle.rules.specs.Calls.{read}
 use Rattle.rules.specs.Limits.{record_limit, rule_flags}
@@ -29,15 +27,14 @@ use Rattle.expr.specs.Answers.{kind_of}
 use Rattle.reader.specs.Answers.{node_of, reading_of}
 use Rattle.reader.specs.declared.Node.{Node}
 use Rattle.reader.specs.declared.Reading.{Reading}
-use Rattle.reader.specs.contracts.Reading.{the_type}
 use Rattle.reader.proofs.Stack.{push-few}
 use Rattle.reader.proofs.Walk.{Walk, walk_refused}
 
 -- the code's answer is the end where it is neither a record nor a refusal
-only_end : (r : Reading) → (tag_of the_type r ≡ 1) ⊎ (tag_of the_type r ≡ 2) → (tag_of the_type r ≡ 0) ⊎ (tag_of the_type r ≡ 1) → r ≡ Reading.End
-only_end (Reading.Found node) p q = absurd (⊎_elim (λ e. omega arith) (λ e. omega arith) p)
+only_end : (r : Reading) → ((x : Node) → r ≡ Reading.Found x → ⊥) → ((x : Refusal) → r ≡ Reading.Refused x → ⊥) → r ≡ Reading.End
+only_end (Reading.Found node) p q = absurd (p node refl)
 only_end Reading.End p q = refl
-only_end (Reading.Refused refusal) p q = absurd (⊎_elim (λ e. omega arith) (λ e. omega arith) q)
+only_end (Reading.Refused refusal) p q = absurd (q refusal refl)
 
 -- what a record that a turn gives tells
 pub record Stepped (n : ℕ) (s : List ℕ) (depth place count : ℕ) (r : Found) : Type 0 where
@@ -100,7 +97,7 @@ module _ {n : ℕ} {s : List ℕ} {count place depth : ℕ} (w : Walk n s count 
       go none f g = turn-none n s place os (record_limit - count) f
       go (some t) f g = absurd (none-some (ap gives (sym g)))
 
-  pub answer-end : (r : Reading) → (tag_of the_type r ≡ 1) ⊎ (tag_of the_type r ≡ 2) → (tag_of the_type r ≡ 0) ⊎ (tag_of the_type r ≡ 1)
+  pub answer-end : (r : Reading) → ((x : Node) → r ≡ Reading.Found x → ⊥) → ((x : Refusal) → r ≡ Reading.Refused x → ⊥)
       → reading_of r ≡ read n s place → length s ≤ place
   answer-end r h k told = answer-past (sym told ∙ ap reading_of (only_end r h k))
 

@@ -23,16 +23,18 @@ unfolding transform
 returns-then-flags-gt-FORM_FLAGS c =
     let due : List ℕ = words c.args.flags (coefficient c.args.flags (entry c.args.table.now)) in
     let call : Outcome (List ℕ) = transform c.args.flags c.args.table.now (length c.args.out.now) in
-    left-refuses c.args.out.now call 1 0
-    (table-flags form_flags c.args.flags c.args.table.now (fill (length c.args.out.now) due) (omega arith))
+    let both = left-refuses c.args.out.now call 1 0
+    (table-flags form_flags c.args.flags c.args.table.now (fill (length c.args.out.now) due) (omega arith)) in
+    record { answer = both.0; lent = both.1 }
 
 pub returns-then-table-setting_count : goal.returns-then-table-setting_count
 unfolding transform
 returns-then-table-setting_count c =
     let due : List ℕ = words c.args.flags (coefficient c.args.flags (entry c.args.table.now)) in
     let call : Outcome (List ℕ) = transform c.args.flags c.args.table.now (length c.args.out.now) in
-    left-refuses c.args.out.now call 2 0
-    (table-short form_flags c.args.flags c.args.table.now (fill (length c.args.out.now) due) (search rules) (omega arith))
+    let both = left-refuses c.args.out.now call 2 0
+    (table-short form_flags c.args.flags c.args.table.now (fill (length c.args.out.now) due) (search rules) (omega arith)) in
+    record { answer = both.0; lent = both.1 }
 
 pub returns-then-out-count : goal.returns-then-out-count
 unfolding fill transform
@@ -42,8 +44,9 @@ returns-then-out-count c =
     let due-length : length due ≡ word_count c.args.flags = length-words c.args.flags (coefficient c.args.flags (entry c.args.table.now)) in
     let passed : call ≡ fill (length c.args.out.now) due = table-complete form_flags c.args.flags c.args.table.now (fill (length c.args.out.now) due) (omega arith) (omega arith) in
     let n : length due ≡ c.word_count-count.result = due-length ∙ sym c.word_count-count.ensures in
-    left-refuses c.args.out.now call 5 c.word_count-count.result
-    (passed ∙ room-short (length c.args.out.now) due (gives due) (omega arith) ∙ ap (refuses 5) n)
+    let both = left-refuses c.args.out.now call 5 c.word_count-count.result
+    (passed ∙ room-short (length c.args.out.now) due (gives due) (omega arith) ∙ ap (refuses 5) n) in
+    record { answer = both.0; lent = both.1 }
 
 pub slice_bounds-transform_table-end-2 : goal.slice_bounds-transform_table-end-2
 slice_bounds-transform_table-end-2 c = sym (length-take-le c.word_count-count.result c.args.out.now (search rules))
@@ -65,8 +68,9 @@ returns c =
     let passed : call ≡ fill (length c.args.out.now) due = table-complete form_flags c.args.flags c.args.table.now (fill (length c.args.out.now) due) (omega arith) (omega arith) in
     let k = c.word_count-count.result in
     let n : length due ≡ k = due-length ∙ sym c.word_count-count.ensures in
-    let after = c.transform_table.new.1.1.0 ++ drop k c.args.out.now in
-    left-gives c.args.out.now after due call k
+    let after = c.transform_table.new.out ++ drop k c.args.out.now in
+    let both = left-gives c.args.out.now after due call k
     (passed ∙ room-enough (length c.args.out.now) due (gives due) (omega arith)) n (search rules)
     (ap₂ (λ (l : List ℕ) (i : ℕ). l ++ drop i c.args.out.now) c.transform_table.ensures (sym n)
-    ∙ sym (sets-front due c.args.out.now (omega arith)))
+    ∙ sym (sets-front due c.args.out.now (omega arith))) in
+    record { answer = both.0; lent = both.1 }

@@ -23,8 +23,9 @@ returns-then-flags-gt-FORM_FLAGS c =
     let due : List ℕ = map (λ i. digit (coefficient c.args.flags (packed c.args.coefficients.now) i)) (settings c.args.flags) in
     let call : Outcome (List ℕ) = way_back c.args.flags c.args.coefficients.now (length c.args.out.now) in
     let last : Outcome (List ℕ) = fill (length c.args.out.now) due in
-    left-refuses c.args.out.now call 1 0
-    (coefficients-flags form_flags c.args.flags c.args.coefficients.now last (omega arith))
+    let both = left-refuses c.args.out.now call 1 0
+    (coefficients-flags form_flags c.args.flags c.args.coefficients.now last (omega arith)) in
+    record { answer = both.0; lent = both.1 }
 
 pub returns-then-coefficients-count : goal.returns-then-coefficients-count
 unfolding way_back
@@ -32,8 +33,9 @@ returns-then-coefficients-count c =
     let due : List ℕ = map (λ i. digit (coefficient c.args.flags (packed c.args.coefficients.now) i)) (settings c.args.flags) in
     let call : Outcome (List ℕ) = way_back c.args.flags c.args.coefficients.now (length c.args.out.now) in
     let last : Outcome (List ℕ) = fill (length c.args.out.now) due in
-    left-refuses c.args.out.now call 3 0
-    (coefficients-short form_flags c.args.flags c.args.coefficients.now last (search rules) (omega arith))
+    let both = left-refuses c.args.out.now call 3 0
+    (coefficients-short form_flags c.args.flags c.args.coefficients.now last (search rules) (omega arith)) in
+    record { answer = both.0; lent = both.1 }
 
 pub returns-then-is_stray : goal.returns-then-is_stray
 unfolding way_back
@@ -41,9 +43,10 @@ returns-then-is_stray c =
     let due : List ℕ = map (λ i. digit (coefficient c.args.flags (packed c.args.coefficients.now) i)) (settings c.args.flags) in
     let call : Outcome (List ℕ) = way_back c.args.flags c.args.coefficients.now (length c.args.out.now) in
     let last : Outcome (List ℕ) = fill (length c.args.out.now) due in
-    left-refuses c.args.out.now call 4 0
+    let both = left-refuses c.args.out.now call 4 0
     (coefficients-stray form_flags c.args.flags c.args.coefficients.now last (search rules) (omega arith)
-    (sym c.is_stray.ensures ∙ c.if-is_stray.true))
+    (sym c.is_stray.ensures ∙ c.if-is_stray.true)) in
+    record { answer = both.0; lent = both.1 }
 
 pub returns-then-out-settings : goal.returns-then-out-settings
 unfolding fill way_back
@@ -55,8 +58,9 @@ returns-then-out-settings c =
     let passed : call ≡ last = coefficients-clean form_flags c.args.flags c.args.coefficients.now last (search rules) (omega arith)
     (sym c.is_stray.ensures ∙ c.if-is_stray.false) in
     let n : length due ≡ c.setting_count-settings.result = due-length ∙ sym c.setting_count-settings.ensures in
-    left-refuses c.args.out.now call 5 c.setting_count-settings.result
-    (passed ∙ room-short (length c.args.out.now) due (gives due) (omega arith) ∙ ap (refuses 5) n)
+    let both = left-refuses c.args.out.now call 5 c.setting_count-settings.result
+    (passed ∙ room-short (length c.args.out.now) due (gives due) (omega arith) ∙ ap (refuses 5) n) in
+    record { answer = both.0; lent = both.1 }
 
 pub returns : goal.returns
 unfolding fill way_back
@@ -68,6 +72,7 @@ returns c =
     let passed : call ≡ last = coefficients-clean form_flags c.args.flags c.args.coefficients.now last (search rules) (omega arith)
     (sym c.is_stray.ensures ∙ c.if-is_stray.false) in
     let n : length due ≡ c.setting_count-settings.result = due-length ∙ sym c.setting_count-settings.ensures in
-    left-gives c.args.out.now c.transform_back.new.1.1.0 due call c.setting_count-settings.result
+    let both = left-gives c.args.out.now c.transform_back.new.out due call c.setting_count-settings.result
     (passed ∙ room-enough (length c.args.out.now) due (gives due) (omega arith)) n (search rules)
-    c.transform_back.ensures
+    c.transform_back.ensures in
+    record { answer = both.0; lent = both.1 }

@@ -39,22 +39,22 @@ pub transform_words-requires : goal.transform_words-requires
 transform_words-requires c =
     let room : c.word_count-count.result ≤ length c.args.out.now = omega (arith, word_count-le c.args.flags) in
     let lent : length (take c.word_count-count.result c.args.out.now) ≡ word_count c.args.flags = length-take-le c.word_count-count.result c.args.out.now room ∙ c.word_count-count.ensures in
-    (search rules, c.copy.auto.1.0 ∙ lent)
+    (search rules, c.copy.auto.words ∙ lent)
 
 pub returns : goal.returns
 returns c =
     let room : c.word_count-count.result ≤ length c.args.out.now = omega (arith, word_count-le c.args.flags) in
     let lent : length (take c.word_count-count.result c.args.out.now) ≡ word_count c.args.flags = length-take-le c.word_count-count.result c.args.out.now room ∙ c.word_count-count.ensures in
-    let holds : (m : ℕ) → m < 2 ^ c.args.flags → packed c.transform_words.new.1.0 m ≡ coefficient c.args.flags (packed c.args.coefficients.now) m = λ m h. let n = c.args.flags in
+    let holds : (m : ℕ) → m < 2 ^ c.args.flags → packed c.transform_words.new.words m ≡ coefficient c.args.flags (packed c.args.coefficients.now) m = λ m h. let n = c.args.flags in
     let cs = c.args.coefficients.now in
     let p = c.copy in
-    let e : p.new.1.0 ≡ take (word_count n) cs = p.ensures ∙ ap (λ (k : ℕ). take k cs) lent in
+    let e : p.new.words ≡ take (word_count n) cs = p.ensures ∙ ap (λ (k : ℕ). take k cs) lent in
     c.transform_words.ensures.1 m h
-    ∙ coefficient-ext n (packed p.new.1.0) (packed cs) m (λ s l. ap (λ (ws : List ℕ). packed ws s) e ∙ packed-take n cs s l) in
+    ∙ coefficient-ext n (packed p.new.words) (packed cs) m (λ s l. ap (λ (ws : List ℕ). packed ws s) e ∙ packed-take n cs s l) in
     let n = c.args.flags in
     let o = c.args.out.now in
     let cs = c.args.coefficients.now in
-    let ws = c.transform_words.new.1.0 in
+    let ws = c.transform_words.new.words in
     let k = c.word_count-count in
     let size : length ws ≡ word_count n = c.transform_words.ensures.0 in
     let vs = map (λ s. digit (coefficient n (packed cs) s)) (upto (2 ^ n)) in

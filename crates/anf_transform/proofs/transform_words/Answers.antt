@@ -18,15 +18,15 @@ between-requires c =
 
 pub returns-then-flags-gt6 : goal.returns-then-flags-gt6
 returns-then-flags-gt6 c =
-    let six : Holds (lowest 6 (packed c.args.words.now)) c.inside.new.0 = holds-inside c.args.words.now c.inside.new.0 c.inside.ensures in
+    let six : Holds (lowest 6 (packed c.args.words.now)) c.inside.new.words = holds-inside c.args.words.now c.inside.new.words c.inside.ensures in
     let ws = c.args.words.now in
     let e : 6 + (c.args.flags - 6) ≡ c.args.flags = omega arith in
     let h = rw e at (c.between.ensures.1 (packed ws) six) in
     let l = c.between.ensures.0 ∙ c.inside.ensures.same ∙ c.requires.1 in
-    (l, holds-coefficient c.args.flags c.args.flags (packed ws) c.between.new.0 (le_refl c.args.flags) l h)
+    (l, holds-coefficient c.args.flags c.args.flags (packed ws) c.between.new.words (le_refl c.args.flags) l h)
 
 pub returns-else-flags-gt6 : goal.returns-else-flags-gt6
 returns-else-flags-gt6 c =
-    let six : Holds (lowest 6 (packed c.args.words.now)) c.inside.new.0 = holds-inside c.args.words.now c.inside.new.0 c.inside.ensures in
+    let six : Holds (lowest 6 (packed c.args.words.now)) c.inside.new.words = holds-inside c.args.words.now c.inside.new.words c.inside.ensures in
     let l = c.inside.ensures.same ∙ c.requires.1 in
-    (l, holds-coefficient c.args.flags 6 (packed c.args.words.now) c.inside.new.0 c.if-flags-gt6.false l six)
+    (l, holds-coefficient c.args.flags 6 (packed c.args.words.now) c.inside.new.words c.if-flags-gt6.false l six)

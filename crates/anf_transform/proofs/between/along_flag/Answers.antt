@@ -46,7 +46,7 @@ loop-base-preserved c =
     let h = c.join_halves in
     let l = c.loop-base in
     let a = c.args in
-    let next = joined-next a.j a.words.now l.base l.words l.invariant.2 h.new.0 (rw l.invariant.0 at h.ensures) in
+    let next = joined-next a.j a.words.now l.base l.words l.invariant.2 h.new.words (rw l.invariant.0 at h.ensures) in
     (l.invariant.0, omega (arith, room), rw l.invariant.0 next)
 
 pub shape_of-words : goal.shape_of-words

@@ -21,7 +21,7 @@ pub loop-j-preserved : goal.loop-j-preserved
 loop-j-preserved c =
     let l = c.loop-j in
     let step = c.along_flag.ensures in
-    (omega arith, step.same ∙ l.invariant.1, λ f h. holds-next l.j f l.words c.along_flag.new.0 step (l.invariant.2 f h))
+    (omega arith, step.same ∙ l.invariant.1, λ f h. holds-next l.j f l.words c.along_flag.new.words step (l.invariant.2 f h))
 
 pub shape_of-words : goal.shape_of-words
 shape_of-words c = c.loop-j.invariant.1

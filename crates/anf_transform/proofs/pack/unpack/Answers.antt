@@ -57,7 +57,7 @@ loop-i-preserved c =
     let e : l.i ≡ k + 1 = omega arith in
     let w : get_or l.out k 0 ≡ get_or o k 0 = ap (λ (r : List ℕ). get_or r k 0) l.invariant.2 ∙ get_or-unpacked n o l.i k (omega arith) in (
       search rules,
-      c.unpack_word.auto.1.0 ∙ l.invariant.1,
+      c.unpack_word.auto.out ∙ l.invariant.1,
       c.unpack_word.ensures
           ∙ ap₂ (λ (v m : ℕ). sets l.out (64 * k) (map (λ j. digit (bit v j)) (upto m))) w counted
           ∙ ap (λ (r : List ℕ). sets r (64 * k) (map (λ j. digit (bit (get_or o k 0) j)) (upto (min (2 ^ n) 64)))) (l.invariant.2 ∙ ap (unpacked n o) e)

@@ -8,12 +8,16 @@ use borrow.Author.Rules.{rules}
 use lib.ListN.{length, set, length-set}
 use lib.Seq.{sets}
 use Rattle.bits.specs.Bit.{bit, digit}
-use Rattle.bits.specs.Range.{upto}
+use Rattle.bits.specs.Range.{from, upto}
 use Rattle.bits.proofs.Quotient.{shift-digit}
 use Rattle.bits.proofs.Tabulated.{length-map-upto}
 use Rattle.bits.proofs.Stores.{sets-append}
 use Rattle.bits.proofs.Tabulated.{map-upto-more}
 use Rattle.anf_transform.proofs.pack.unpack_word.Goals as goal
+
+pub loop-j-init : goal.loop-j-init
+unfolding from
+loop-j-init c = search rules
 
 pub loop-j-preserved : goal.loop-j-preserved
 loop-j-preserved c =
