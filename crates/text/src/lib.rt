@@ -1,6 +1,7 @@
 // What the texts for people share: bytes and numbers written at a place of a buffer, the page that they fill,
 // and the digits of a table that is read. It rests on `rules`.
 #![tactic(auto)]
+
 pub mod out;
 pub mod table;
 

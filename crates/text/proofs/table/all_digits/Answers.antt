@@ -1,9 +1,7 @@
 -- `text::table::all_digits` meets its contract. The loop's invariant: all bytes passed are digits. The measure is what is left of the bytes.
-use mathlib.Core.Bool.{true}
 use mathlib.Core.Path.{refl, sym, ap, ◌∙◌}
 use native.Mathlib.Omega.{arith}
 use lib.Seq.{take_all}
-use borrow.Author.Tests.{not-true, not-false}
 use Rattle.bits.specs.Range.{all}
 use Rattle.text.specs.TableDigits.{is_digit}
 use Rattle.text.proofs.TableDigits.{all_none, all_more, all-stop}
@@ -19,7 +17,7 @@ pub returns-then-not-is_digit : goal.returns-then-not-is_digit
 returns-then-not-is_digit c =
     let l = c.loop-i in
     let s = c.args.bytes.now in
-    sym (all-stop is_digit s l.i (omega arith) (sym c.is_digit.ensures ∙ not-true _ c.if-not-is_digit.true))
+    sym (all-stop is_digit s l.i (omega arith) (sym c.is_digit.ensures ∙ c.if-not-is_digit.true))
 
 pub overflow_step-i : goal.overflow_step-i
 overflow_step-i c = omega arith
@@ -31,7 +29,7 @@ pub loop-i-preserved : goal.loop-i-preserved
 loop-i-preserved c =
     let l = c.loop-i in
     let s = c.args.bytes.now in
-    (omega arith, refl, all_more is_digit s l.i (omega arith) l.invariant.2 (sym c.is_digit.ensures ∙ not-false _ c.if-not-is_digit.false))
+    (omega arith, refl, all_more is_digit s l.i (omega arith) l.invariant.2 (sym c.is_digit.ensures ∙ c.if-not-is_digit.false))
 
 pub returns : goal.returns
 returns c =

@@ -1,5 +1,6 @@
 -- `text::table::flag_count` meets its contract: each number that is matched has the flag count answered, and another number has none.
 use mathlib.Core.Path.{sym, ap}
+use native.Mathlib.Omega.{arith}
 use Rattle.bits.specs.Range.{from, keep}
 use Rattle.rules.specs.Text.{flags_of, first_of}
 use Rattle.text.proofs.FlagCount.{flags-none}
@@ -35,6 +36,4 @@ returns-in-64 c = sym (ap flags_of c.in-64.is)
 
 pub returns-in_default : goal.returns-in_default
 returns-in_default c =
-    let r = c.in_default.in_default-own.rest in
-    sym (flags-none c.args.digits r.0.0.0.0.0.0.1 r.0.0.0.0.0.1 r.0.0.0.0.1
-    r.0.0.0.1 r.0.0.1 r.0.1 r.1)
+    sym (flags-none c.args.digits (omega arith) (omega arith) (omega arith) (omega arith) (omega arith) (omega arith) (omega arith))
