@@ -1,0 +1,8 @@
+-- `lanes::all` meets its contract: the test is the truth value.
+use Rattle.lanes.proofs.all.Goals as goal
+
+pub returns-then-b : goal.returns-then-b
+returns-then-b c = rw c.if-b.true
+
+pub returns : goal.returns
+returns c = rw c.if-b.false
