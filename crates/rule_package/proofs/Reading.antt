@@ -70,7 +70,8 @@ unfolding package_bytes placed
 reads-placed [] a h limit = ends_read (a ++ []) (length a) record { limit = limit; past = simp length-append (omega arith) }
 reads-placed (r ∷ rs) a h limit = (
   sound-read r a (package_bytes rs) h.0 limit,
-  rw (← next-rule_from a r, ← append_assoc a (rule_bytes r) (package_bytes rs)) (reads-placed rs (a ++ rule_bytes r) h.1 (rw append_assoc limit)),
+  subst (λ (s : List ℕ). Reads s (rule_from (length a) r).next (placed (rule_from (length a) r).next rs)) (append_assoc a (rule_bytes r) (package_bytes rs))
+  (rw (← next-rule_from a r) (reads-placed rs (a ++ rule_bytes r) h.1 (rw append_assoc limit))),
 )
 
 pub rules-placed : (rs : List Rule) (a : List ℕ) → map (rule_in (a ++ package_bytes rs)) (placed (length a) rs) ≡ rs
@@ -78,7 +79,8 @@ unfolding package_bytes placed
 rules-placed [] a = refl
 rules-placed (r ∷ rs) a =
     ap₂ {C = List Rule} ◌∷◌ (rule_in-rule_bytes r a (package_bytes rs))
-    (rw (← next-rule_from a r, ← append_assoc a (rule_bytes r) (package_bytes rs)) (rules-placed rs (a ++ rule_bytes r)))
+    (subst (λ (s : List ℕ). map (rule_in s) (placed (rule_from (length a) r).next rs) ≡ rs) (append_assoc a (rule_bytes r) (package_bytes rs))
+    (rw (← next-rule_from a r) (rules-placed rs (a ++ rule_bytes r))))
 
 pub package_bytes-reads : (s : List ℕ) → Below 256 s → (p : ℕ) (rs : List RuleAt) → Reads s p rs → package_bytes (map (rule_in s) rs) ≡ drop p s
 unfolding package_bytes

@@ -1,5 +1,6 @@
 -- `anf_form::mask_order::sum_terms` meets its contract. The loop's invariant: the sum and the bulk of the masks that are left make the bulk of all,
 -- and the sum is at most 128 for each mask passed. A turn adds the weight of the lowest mask left (Bulk). The measure is how many masks are left.
+use mathlib.Core.Bool.{not}
 use mathlib.Core.List.{List, map}
 use mathlib.Core.Path.{◌≡◌, ap, ◌∙◌}
 use Prim.Native.Nat.{ℕ, ◌+◌, ◌<◌, ◌≤◌}
@@ -22,7 +23,7 @@ is_empty-requires c = tt
 
 pub first-requires : goal.first-requires
 first-requires c =
-    let some : 0 < length (masks c.loop-left.left) = masks-left c.loop-left.left c.is_empty.ensures c.loop-left-test.true in
+    let some : 0 < length (masks c.loop-left.left) = masks-left c.loop-left.left c.is_empty.ensures (ap not c.loop-left-test.true) in
     some
 
 pub overflow_add-base : goal.overflow_add-base
@@ -45,17 +46,17 @@ overflow_add-sum-in-loop-left c =
 
 pub rest-left-requires : goal.rest-left-requires
 rest-left-requires c =
-    let some : 0 < length (masks c.loop-left.left) = masks-left c.loop-left.left c.is_empty.ensures c.loop-left-test.true in
+    let some : 0 < length (masks c.loop-left.left) = masks-left c.loop-left.left c.is_empty.ensures (ap not c.loop-left-test.true) in
     some
 
 pub loop-left-smaller : goal.loop-left-smaller
 loop-left-smaller c =
-    let some : 0 < length (masks c.loop-left.left) = masks-left c.loop-left.left c.is_empty.ensures c.loop-left-test.true in
+    let some : 0 < length (masks c.loop-left.left) = masks-left c.loop-left.left c.is_empty.ensures (ap not c.loop-left-test.true) in
     omega (arith, some, ap length c.rest-left.ensures, length-drop 1 (masks c.loop-left.left))
 
 pub loop-left-preserved : goal.loop-left-preserved
 loop-left-preserved c =
-    let some : 0 < length (masks c.loop-left.left) = masks-left c.loop-left.left c.is_empty.ensures c.loop-left-test.true in
+    let some : 0 < length (masks c.loop-left.left) = masks-left c.loop-left.left c.is_empty.ensures (ap not c.loop-left-test.true) in
     let base = c.args.base in
     let l = masks c.loop-left.left in
     let term = c.term_cost.ensures.0 ∙ ap (λ (m : ℕ). term_cost (base + m)) c.first.ensures in
@@ -66,7 +67,7 @@ loop-left-preserved c =
 
 pub returns : goal.returns
 returns c =
-    let none : length (masks c.loop-left.left) ≡ 0 = masks-done c.loop-left.left c.is_empty.ensures c.loop-left-test.false in
+    let none : length (masks c.loop-left.left) ≡ 0 = masks-done c.loop-left.left c.is_empty.ensures (ap not c.loop-left-test.false) in
     let small : c.loop-left.sum ≤ 8192 = omega (arith, few-masks c.args.form) in
     let moved : ℕ → ℕ = λ m. c.args.base + m in
     let l = masks c.loop-left.left in
