@@ -13,8 +13,7 @@ use mathlib.Core.Path.{◌≡◌, refl, sym, ap, ap₂, ◌∙◌}
 use Prim.Native.Nat.{ℕ}
 use native.Mathlib.Nat.{le_of_eq}
 use lib.Dec.{ltb}
-use base.Fml.{GName}
-use denote.Ref.{MutBor}
+use denote.Ref.{Bor}
 use borrow.Author.Tests.{eq-eqb, ne_eqb, le-ltb}
 use Rattle.rules.specs.Calls.{Costs, parse, costing, smaller, cheaper_of, cheaper_of_two}
 use Rattle.rules.specs.Outcome.{Outcome, gives, refuses}
@@ -78,18 +77,18 @@ cheaper-map {A} {B} f e a b (gives t) (gives u) = pick (smaller u t)
     pick false = refl
 
 -- the part that an answer of `compare` stands for
-abbrev pub part : MutBor (List ℕ) → MutBor (List ℕ) → GName → Which → MutBor (List ℕ)
-part a b name First = a
-part a b name Second = b
-part a b name Neither = empty_part a name
+abbrev pub part : Bor (List ℕ) → Bor (List ℕ) → Which → Bor (List ℕ)
+part a b First = a
+part a b Second = b
+part a b Neither = empty_part a
 
-pub cheaper-part : (n : ℕ) (a b : MutBor (List ℕ)) (name : GName) (w : Which) → w ≡ cheaper_of Neither First Second (parse n a.now) (parse n b.now)
-    → part a b name w ≡ cheaper_part n a b name
+pub cheaper-part : (n : ℕ) (a b : Bor (List ℕ)) (w : Which) → w ≡ cheaper_of Neither First Second (parse n a.now) (parse n b.now)
+    → part a b w ≡ cheaper_part n a b
 unfolding cheaper_part
-cheaper-part n a b name w e = ap (part a b name) e ∙ cheaper-map (part a b name) Neither First Second (parse n a.now) (parse n b.now)
+cheaper-part n a b w e = ap (part a b) e ∙ cheaper-map (part a b) Neither First Second (parse n a.now) (parse n b.now)
 
-pub cheaper-contents : (n : ℕ) (a b r : MutBor (List ℕ)) → r ≡ cheaper_part n a b r.ghost_name → r.now ≡ cheaper_of_two n a.now b.now
+pub cheaper-contents : (n : ℕ) (a b r : Bor (List ℕ)) → r ≡ cheaper_part n a b → r.now ≡ cheaper_of_two n a.now b.now
 unfolding cheaper_part cheaper_of_two
 cheaper-contents n a b r e =
-    ap (λ (x : MutBor (List ℕ)). x.now) e
-    ∙ cheaper-map (λ (x : MutBor (List ℕ)). x.now) (empty_part a r.ghost_name) a b (parse n a.now) (parse n b.now)
+    ap (λ (x : Bor (List ℕ)). x.now) e
+    ∙ cheaper-map (λ (x : Bor (List ℕ)). x.now) (empty_part a) a b (parse n a.now) (parse n b.now)

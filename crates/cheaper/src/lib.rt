@@ -37,10 +37,9 @@ pub fn compare(flags: usize, first: &[u8], second: &[u8]) -> Which
     Which::First
 }
 
-// The slice of the cheaper one; where the flag count or either expression is refused, the empty part at the front of the first, of which only the
-// ghost name is left free.
+// The slice of the cheaper one; where the flag count or either expression is refused, the empty part at the front of the first.
 pub fn cheaper<'a>(flags: usize, first: &'a [u8], second: &'a [u8]) -> &'a [u8]
-    ensures { result ≡ cheaper_part flags first.entry second.entry result.name }
+    ensures { result ≡ cheaper_part flags first.entry second.entry }
 {
     let which = compare(flags, first, second);
     match which {
@@ -52,7 +51,7 @@ pub fn cheaper<'a>(flags: usize, first: &'a [u8], second: &'a [u8]) -> &'a [u8]
 
 // The part at the front of a slice that holds nothing.
 fn empty(s: &[u8]) -> &[u8]
-    ensures { result ≡ empty_part s.entry result.name }
+    ensures { result ≡ empty_part s.entry }
 {
     &s[..0]
 }

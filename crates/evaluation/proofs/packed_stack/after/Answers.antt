@@ -1,7 +1,8 @@
 -- `evaluation::packed_stack::after` meets its contract: each arm is told the kind, and a law of Packed says what such a record leaves. A
 -- flag's index is below 64 by the `requires`.
+use mathlib.Core.Bool.{◌&&◌, ◌||◌}
 use mathlib.Core.Path.{refl}
-use Rattle.bits.specs.Bit.{bit}
+use Rattle.bits.specs.Bit.{◌⊕◌, bit}
 use Rattle.rules.specs.Machine.{push}
 use Rattle.rules.specs.Tree.{CO, VA, AN, OR, XO, NO, value}
 use Rattle.evaluation.proofs.Packed.{packed-leaf, packed-unary, packed-binary, and-table, or-table, xor-table}
