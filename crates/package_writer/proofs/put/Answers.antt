@@ -38,7 +38,7 @@ returns c =
     let l = rule_bytes rule in
     let enough = room-enough (length c.args.out.now) l (gives l) (omega (arith, length-rule_bytes rule)) in
     let head = header c.args.flags (length c.args.expression.now) c.args.table in
-    let stored : c.put_all.new.1.0 ≡ sets c.args.out.now 0 l =
+    let stored : c.put_all.new.out ≡ sets c.args.out.now 0 l =
     c.put_all.ensures ∙ ap (λ (o : List ℕ). sets o 13 c.args.expression.now) c.put_header.ensures
     ∙ sets-append head c.args.expression.now c.args.out.now 0 ∙ ap (sets c.args.out.now 0) (sym (rule_bytes-header rule)) in
     let both = left-gives c.args.out.now _ l _ _ enough (length-rule_bytes rule) (omega arith) stored in
