@@ -15,12 +15,17 @@ trap 'rm -rf "$scratch"' EXIT
 trap 'exit 1' INT TERM
 
 "$here/oracle/build.sh" "$rust" "$scratch"
-(cd "$here" && rt staticlib guide_rules >"$scratch/staticlib.log" 2>&1) || {
-    tail -n 5 "$scratch/staticlib.log" >&2
-    exit 1
+# The static library of a crate, built over what was proved before.
+library() {
+    (cd "$here/crates/$1" && rt lib >"$scratch/$1.log" 2>&1) || {
+        tail -n 5 "$scratch/$1.log" >&2
+        exit 1
+    }
 }
+
+library guide_rules
 # Left to the linker, a function's place depends on what else is linked, and moves the time of a short call by about a seventh, up or down.
-objcopy --set-section-alignment '.text.*=64' "$here/target/staticlib/libguide_rules.a" "$scratch/libguide_rules.a"
+objcopy --set-section-alignment '.text.*=64' "$here/crates/guide_rules/out/libguide_rules.a" "$scratch/libguide_rules.a"
 rustc --edition 2021 -C opt-level=3 --crate-name bench --extern original="$scratch/liboriginal.rlib" -L "$scratch" -o "$scratch/bench" \
     "$here/bench/main.rs"
 "$scratch/bench" >"$scratch/table.md"
@@ -28,19 +33,16 @@ rustc --edition 2021 -C opt-level=3 --crate-name bench --extern original="$scrat
 "$scratch/bench" raw_costs >"$scratch/raw_costs.md"
 "$scratch/bench" packages >"$scratch/packages.md"
 "$scratch/bench" growth >"$scratch/growth.md"
-cc -O2 -std=c99 -Wall -Wextra -Werror -I"$here/include" "$here/bench/stack.c" "$here/target/staticlib/libguide_rules.a" -o "$scratch/stack"
+cc -O2 -std=c99 -Wall -Wextra -Werror -I"$here/include" "$here/bench/stack.c" "$here/crates/guide_rules/out/libguide_rules.a" -o "$scratch/stack"
 "$scratch/stack" >"$scratch/stack.md"
-(cd "$here" && rt staticlib console >"$scratch/staticlib.log" 2>&1) || {
-    tail -n 5 "$scratch/staticlib.log" >&2
-    exit 1
-}
+library console
 # Code and constants, in bytes: the second and later lines of size's output, first column.
-code=$(size "$here/target/staticlib/libconsole.a" | awk 'NR > 1 { sum += $1 } END { print sum }')
+code=$(size "$here/crates/console/out/libconsole.a" | awk 'NR > 1 { sum += $1 } END { print sum }')
 {
     cat <<'END'
 # Measured beside the original
 
-`make bench RUST=DIR` makes this page. Both sides are built for release (rustc -O for the original, -O3 for the library) and run on the same inputs in one process, the two in turn, 25 rounds; a time is the least of the rounds, in nanoseconds a call, and the table has the mean over the inputs. A ratio is the original's time over ours; the last column compares the slowest tenths of the inputs. The inputs come from a fixed sequence of numbers: 60 tables of each kind for compiling (worst: of 1,000 random tables the 60 that ours takes longest for), 8 for transforms, 6 for listings, and the expressions of 60 random tables for the rest. The original's results are allocated, ours are written to lent buffers, which are not cleared between calls. Each of the library's functions starts at a multiple of 64 bytes; left to the linker, its place moves the time of a short call by about a seventh, up or down. Absolute times vary by machine, and no time is a test.
+`make bench RUST=DIR` makes this page. Both sides are built for release (rustc -O for the original, -O3 for the library, whose code is for x86-64-v2, the toolchain's default) and run on the same inputs in one process, the two in turn, 25 rounds; a time is the least of the rounds, in nanoseconds a call, and the table has the mean over the inputs. A ratio is the original's time over ours; the last column compares the slowest tenths of the inputs. The inputs come from a fixed sequence of numbers: 60 tables of each kind for compiling (worst: of 1,000 random tables the 60 that ours takes longest for), 8 for transforms, 6 for listings, and the expressions of 60 random tables for the rest. The original's results are allocated, ours are written to lent buffers, which are not cleared between calls. Each of the library's functions starts at a multiple of 64 bytes; left to the linker, its place moves the time of a short call by about a seventh, up or down. Absolute times vary by machine, and no time is a test.
 
 The original has no way back and no examiner: the first is compared with its transform of the unpacked coefficients, the second with evaluating its tree at every setting and comparing. Costing on our side reads bytes and answers cost, size and depth; the original's side is `anf_expr_cost` and `compute_cost` on a tree that stands in memory. Our side of every row is the C function of include/guide_rules.h with its whole answer. Version 0.1.0 measured calls that threw costs and values away, so that the compiler left part of the work out: its ratios of costing (2 to 3) and of raw costing (19 and more) were too good.
 
@@ -57,6 +59,6 @@ END
     printf '\n## Memory and code\n\nStack, by painting a stack of its own for each call and looking for the lowest byte that changed. No call allocates.\n\n'
     cat "$scratch/stack.md"
     printf '\nThe console library has %s bytes of code and constants (`size libconsole.a`).\n' "$code"
-    printf '\nMeasured on: %s, %s.\n' "$(sed -n 's/^model name[^:]*: //p' /proc/cpuinfo | head -n 1)" "$(rustc --version | cut -d' ' -f1,2)"
+    printf '\nMeasured on: %s, %s, %s.\n' "$(sed -n 's/^model name[^:]*: //p' /proc/cpuinfo | head -n 1)" "$(rustc --version | cut -d' ' -f1,2)" "$(rt version)"
 } >"$here/docs/BENCHMARK.md"
 cat "$scratch/table.md"

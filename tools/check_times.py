@@ -1,30 +1,27 @@
-"""The time of `rt ci` by crate, as a table, from its output on standard input. After `make test`, at the top of the repository:
-python3 tools/check_times.py <target/ci.log >docs/CHECK_TIMES.md."""
+"""When `rt ci` had proved each crate and begun its must-fail edits, as a table, from what tools/progress notes of a run (build/ci.times), on standard
+input. After a `make test` that proved every crate, at the top of the repository: python3 tools/check_times.py <build/ci.times
+
+`rt ci` works on several crates at a time and prints no times, so these are seconds from the start and not times of a crate by itself. A crate that an
+earlier run on the machine proved is `kept`.
+"""
 import re
 import sys
 
-proof, edits, trials = {}, {}, {}
+proved, begun, edits, whole = {}, {}, {}, 0
 for line in sys.stdin:
-    if found := re.match(r"rt: (\w+) proved \((\d+) s\)", line):
-        proof[found[1]] = int(found[2])
-    if found := re.match(r"rt: must-fail (\w+)/\w+: refused.*?(\d+) s\)", line):
+    seconds, _, text = line.partition(" ")
+    whole = int(seconds)
+    if found := re.match(r"rt: (\w+) proved$", text):
+        proved[found[1]] = seconds
+    if found := re.match(r"rt: (\w+) is kept: ", text):
+        proved[found[1]] = "kept"
+    if found := re.match(r"rt: (\w+): trying its must-fail edits \(", text):
+        begun[found[1]] = seconds
+    if found := re.match(r"rt: must-fail (\w+)/[^:]+: refused", text):
         edits[found[1]] = edits.get(found[1], 0) + 1
-        trials[found[1]] = trials.get(found[1], 0) + int(found[2])
 
-print("# The time of the test by crate\n")
-print("`tools/check_times.py` makes this page from what `rt ci` prints. Seconds for each crate's own proof, and together for its must-fail edits, each of which is")
-print("one more check of the crate. Two checks run side by side, so the whole takes about half of the sum. Times vary by machine:")
-print("on that of the last row the proofs of version 0.4.0 took 872 s, and it had other work besides.\n")
-print("| | Crates | Proofs, s | Edits | Their checks, s |\n|---|---|---|---|---|")
-print("| version 0.1.0, before crates were split by functions and laws stood apart | 23 | 367 | 275 | 4253 |")
-print("| version 0.2.0, before the calls for C and what decides in the replays were split by functions | 39 | 396 | 335 | 2572 |")
-print("| version 0.2.1, before the requests of document 02 | 47 | 460 | 337 | 1782 |")
-print("| version 0.3.0, with 64 stars | 49 | 487 | 350 | 1954 |")
-print("| version 0.3.1, with a coefficient's place without dividing | 49 | 468 | 352 | 1927 |")
-print("| version 0.3.2, with the raw cost added in mask order | 49 | 454 | 358 | 1876 |")
-print("| version 0.4.0, with the rule package | 55 | 523 | 418 | 2231 |")
-print(f"| now | {len(proof)} | {sum(proof.values())} | {sum(edits.values())} | {sum(trials.values())} |\n")
-print("| Crate | Proof, s | Edits | Their checks, s |\n|---|---|---|---|")
-for crate in proof:
-    print(f"| `{crate}` | {proof[crate]} | {edits.get(crate, 0)} | {trials.get(crate, 0)} |")
-print(f"| all | {sum(proof.values())} | {sum(edits.values())} | {sum(trials.values())} |")
+print("| Crate | Proved after, s | Its edits begun after, s | Edits |\n|---|---|---|---|")
+for crate in proved:
+    print(f"| `{crate}` | {proved[crate]} | {begun.get(crate, 'kept' if crate in edits else '')} | {edits.get(crate, '')} |")
+print(f"| all {len(proved)} | | | {sum(edits.values())} |")
+print(f"\nThe whole took {whole} s.")

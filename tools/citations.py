@@ -11,15 +11,15 @@ CITED = re.compile(r"\((?:([a-z_]+), )?((?:[A-Z]\w+)(?:(?:, | and |, and )[A-Z]\
 GROUPS = re.compile(r"\(([^()]*)\)")
 
 
-def files(crate):
-    return {path.stem for path in (ROOT / crate).rglob("*.antt")}
+# without what rt makes in a crate's folder out/
+FILES = sorted(path for path in ROOT.rglob("*.antt") if path.parts[2] != "out")
 
 
 def main():
     crates = {path.name for path in ROOT.iterdir()}
-    have = {crate: files(crate) for crate in crates}
+    have = {crate: {path.stem for path in FILES if path.parts[1] == crate} for crate in crates}
     bad = 0
-    for path in sorted(ROOT.rglob("*.antt")):
+    for path in FILES:
         crate = path.parts[1]
         head = "\n".join(line for line in path.read_text().splitlines() if line.lstrip().startswith("--"))
         text = re.sub(r"\s*\n\s*-- ?", " ", head)

@@ -7,7 +7,7 @@ start with `//`, contracts, ghost imports and literals of text may have `/` and 
 import re
 import sys
 
-from layers import ROOT, listed, used
+from layers import ROOT, files, listed, used
 
 # The crates that get and set coefficients, count their words and clear stray ones (packed_anf), pack and unpack them (anf_transform), list them
 # (anf_form), and look at the bits of a form's or a table's word (form, search, table). What their code calls is added.
@@ -20,11 +20,11 @@ GHOST = re.compile(r"\bghost\s+use\b[^;]*;")
 CONTRACT = re.compile(r"\b(?:requires|ensures)\b[^{;]*\{")
 # Lines 9 and 10 divide; in all others `/` and `%` stand aside.
 SAMPLE = """// a / b
-ghost use Prim.Native.Nat.{_/_, _%_};
+ghost use Rattle.std.specs.Prelude.{◌/◌, ◌%◌};
 fn f(m: usize) -> usize
-    requires few { ⌜ m / 64 < 2 ⌝ }
-    ensures { λ r. ⌜ (r ≡ m % 64)
-        × (r / 2 ≡ { m / 2 }) ⌝ }
+    requires few { m / 64 < 2 }
+    ensures { (result ≡ m % 64)
+        × (result / 2 ≡ half (record { n = m / 2 })) }
 {
     let slash = b'/' as usize + length("/ } %");
     let half = m / 2; // not 2 % m
@@ -80,7 +80,7 @@ def main():
         for library in crates[crate]
         if library not in crates
     ]
-    paths = [path for crate in looked for path in sorted((ROOT / crate / "src").rglob("*.rt"))]
+    paths = [path for crate in looked for path in files(crate, ".rt")]
     found += [
         f"{path}:{number}: shift or mask here, for request 2: {path.read_text().splitlines()[number - 1].strip()}"
         for path in paths + [ROOT / file for file in FILES]

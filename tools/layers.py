@@ -10,6 +10,8 @@ import sys
 
 ROOT = pathlib.Path("crates")
 COMMENT = re.compile(r"(?m)(^|\s)(--|//)(\s.*)?$")
+# What code names for its proof alone: ghost imports, and the laws and definitions that an attribute lets its proofs use.
+GHOST = re.compile(r"\bghost\s+use\b[^;]*;|#!?\[tactic\([^\]]*\]")
 LAWS = {"laws", "rules", "bits"}
 
 
@@ -20,23 +22,31 @@ def listed():
         if line.startswith("#"):
             comment = line[1:].strip().rstrip(".")
         elif line.strip():
+            # `NAME: ..`, or `NAME staticlib: ..` of a static library
             name, _, rest = line.partition(":")
+            name = name.split()[0]
             crates[name], about[name] = rest.split(), comment
     return crates, about
+
+
+def files(crate, *endings):
+    """The files of a crate with these endings, but for what rt makes in its folder out/."""
+    return sorted(path for path in (ROOT / crate).rglob("*") if path.suffix in endings and path.relative_to(ROOT).parts[1] != "out")
 
 
 def used(crate, crates):
     """The crates that a crate's code calls, and all crates that its files cite."""
     code, cited = set(), set()
-    for path in (ROOT / crate).rglob("*"):
-        if path.suffix not in (".rt", ".antt"):
-            continue
+    for path in files(crate, ".rt", ".antt"):
         text = COMMENT.sub("", path.read_text())
-        cited |= set(re.findall(r"Rattle·(\w+)", text))
+        cited |= set(re.findall(r"\bRattle\.(\w+)", text))
         if path.suffix == ".rt":
-            text = re.sub(r"ghost use[^;]*;", "", text)
+            ghost = "".join(GHOST.findall(text))
+            text = GHOST.sub("", text)
             # a crate is called by its path, or imported under another name
-            code |= {name for name in crates if re.search(rf"(?<![\w:]){name}::|\buse\s+{name}\s+as\s", text)}
+            named = {name: rf"(?<![\w:]){name}::|\buse\s+{name}\s+as\s" for name in crates}
+            code |= {name for name in crates if re.search(named[name], text)}
+            cited |= {name for name in crates if re.search(named[name], ghost)}
     return code - {crate}, (cited | code) - {crate}
 
 

@@ -5,7 +5,7 @@
 ghost use Rattle.std.specs.Prelude.{◌≡◌};
 ghost use Rattle.examiner.specs.Answers.{examination_of};
 ghost use Rattle.rules.specs.Calls;
-ghost use Rattle.rules.specs.Console.{entries, number, result};
+ghost use Rattle.rules.specs.Console.{entries, number, result as result_of};
 
 use evaluation::Evaluation;
 use examiner::Examination;
@@ -15,7 +15,7 @@ use table::Table;
 // The refusal's number at evaluation, or 0.
 #[unsafe(no_mangle)]
 pub extern "C" fn rule_evaluation_number(flags: usize, bytes: &[u8], setting: usize) -> u64
-    ensures* { λ r. ⌜ r ≡ number (Calls.evaluate flags bytes.now setting) ⌝ }
+    ensures { result ≡ number (Calls.evaluate flags bytes.now setting) }
 {
     let answer = evaluation::evaluate(flags, bytes, setting);
     match answer {
@@ -27,7 +27,7 @@ pub extern "C" fn rule_evaluation_number(flags: usize, bytes: &[u8], setting: us
 // The value at the setting, or the refusal's place.
 #[unsafe(no_mangle)]
 pub extern "C" fn rule_evaluation_result(flags: usize, bytes: &[u8], setting: usize) -> u64
-    ensures* { λ r. ⌜ r ≡ result (Calls.evaluate flags bytes.now setting) ⌝ }
+    ensures { result ≡ result_of (Calls.evaluate flags bytes.now setting) }
 {
     let answer = evaluation::evaluate(flags, bytes, setting);
     match answer {
@@ -39,7 +39,7 @@ pub extern "C" fn rule_evaluation_result(flags: usize, bytes: &[u8], setting: us
 // The refusal's number at examination, or 0.
 #[unsafe(no_mangle)]
 pub extern "C" fn rule_examination_number(flags: usize, table: &[u8], bytes: &[u8]) -> u64
-    ensures* { λ r. ⌜ r ≡ number (Calls.examine flags (entries table.now) bytes.now) ⌝ }
+    ensures { result ≡ number (Calls.examine flags (entries table.now) bytes.now) }
 {
     let answer = examine(flags, table, bytes);
     match answer {
@@ -51,7 +51,7 @@ pub extern "C" fn rule_examination_number(flags: usize, table: &[u8], bytes: &[u
 // The cost of an expression that is accepted, or the refusal's place.
 #[unsafe(no_mangle)]
 pub extern "C" fn rule_examination_result(flags: usize, table: &[u8], bytes: &[u8]) -> u64
-    ensures* { λ r. ⌜ r ≡ result (Calls.examine flags (entries table.now) bytes.now) ⌝ }
+    ensures { result ≡ result_of (Calls.examine flags (entries table.now) bytes.now) }
 {
     let answer = examine(flags, table, bytes);
     match answer {
@@ -62,7 +62,7 @@ pub extern "C" fn rule_examination_result(flags: usize, table: &[u8], bytes: &[u
 
 // Examination of a table in bytes.
 fn examine(flags: usize, table: &[u8], bytes: &[u8]) -> Examination
-    ensures* { λ r. ⌜ examination_of r ≡ Calls.examine flags (entries table.now) bytes.now ⌝ }
+    ensures { examination_of result ≡ Calls.examine flags (entries table.now) bytes.now }
 {
     if RULE_FLAGS < flags {
         return Examination::Refused(Refusal {

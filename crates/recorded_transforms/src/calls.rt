@@ -2,7 +2,7 @@
 // those calls; the promises say that what is compared is the call on paper.
 ghost use Rattle.std.specs.Prelude.{◌≡◌, length};
 ghost use Rattle.rules.specs.Calls.{transform, way_back};
-ghost use Rattle.rules.specs.Outcome as result;
+ghost use Rattle.rules.specs.Outcome as outcomes;
 ghost use Rattle.comparison.specs.Called.{comes_to};
 ghost use Rattle.recorded_transforms.specs.Answers.{outcome_of, numbers_of};
 
@@ -15,7 +15,7 @@ pub const PATTERN: u64 = 0x0123_4567_89AB_CDEF;
 
 // The number of entries is the result.
 fn told(answer: Filled) -> Outcome
-    ensures* { λ r. ⌜ r ≡ numbers_of answer ⌝ }
+    ensures { result ≡ numbers_of answer }
 {
     match answer {
         Filled::Entries(count) => outcome::given(count, 0, 0, 0),
@@ -30,8 +30,8 @@ pub fn transforms_to(
     expected: Outcome,
     left: &[u64],
 ) -> bool
-    ensures* { λ r. ⌜ r ≡ comes_to outcome_of result.left (transform flags table.now (length out.old))
-        out.old expected left.now ⌝ }
+    ensures { result ≡ comes_to outcome_of outcomes.left (transform flags table.now (length out.old))
+        out.old expected left.now }
 {
     let answer = compute_anf(flags, table, out);
     outcome::is_same(told(answer), expected) & words::are_same(out, left)
@@ -44,8 +44,8 @@ pub fn goes_back_to(
     expected: Outcome,
     left: &[u64],
 ) -> bool
-    ensures* { λ r. ⌜ r ≡ comes_to outcome_of result.left (way_back flags coefficients.now (length entries.old))
-        entries.old expected left.now ⌝ }
+    ensures { result ≡ comes_to outcome_of outcomes.left (way_back flags coefficients.now (length entries.old))
+        entries.old expected left.now }
 {
     let answer = compute_table(flags, coefficients, entries);
     outcome::is_same(told(answer), expected) & words::are_same(entries, left)
