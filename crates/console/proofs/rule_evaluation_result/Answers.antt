@@ -1,0 +1,16 @@
+-- `console::rule_evaluation_result` meets its contract: each arm names the answer, and evaluation's promise says what it means.
+use mathlib.Core.Path.{ap, sym, ◌∙◌}
+use Rattle.evaluation.specs.Answers.{evaluation_of}
+use Rattle.evaluation.specs.declared.Evaluation.{Evaluation}
+use Rattle.rules.specs.Console.{result}
+use Rattle.console.proofs.rule_evaluation_result.Goals as goal
+
+pub returns-in-Value : goal.returns-in-Value
+returns-in-Value c =
+    ap (λ (r : Evaluation). result (evaluation_of r)) (sym c.in-Value.is)
+    ∙ ap result c.evaluate-answer.ensures
+
+pub returns-in-Refused : goal.returns-in-Refused
+returns-in-Refused c =
+    ap (λ (r : Evaluation). result (evaluation_of r)) (sym c.in-Refused.is)
+    ∙ ap result c.evaluate-answer.ensures
