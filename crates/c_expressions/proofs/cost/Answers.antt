@@ -10,10 +10,10 @@ pub returns-in-Known : goal.returns-in-Known
 returns-in-Known c =
     let r = c.three in
     let e = told-as costing_of c.in-Known.is c.compute_cost-costing.ensures in
-    answer-gives costs _ e r.ensures.number r.ensures.answer refl
+    record { answer = answer-gives costs _ e r.ensures.number r.ensures.answer refl }
 
 pub returns-in-Refused : goal.returns-in-Refused
 returns-in-Refused c =
     let r = c.refusal in
     let e = told-as costing_of c.in-Refused.is c.compute_cost-costing.ensures in
-    answer-refuses costs _ e r.ensures.number r.ensures.answer
+    record { answer = answer-refuses costs _ e r.ensures.number r.ensures.answer }

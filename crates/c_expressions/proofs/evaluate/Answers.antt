@@ -10,10 +10,10 @@ pub returns-in-Value : goal.returns-in-Value
 returns-in-Value c =
     let r = c.one in
     let e = told-as evaluation_of c.in-Value.is c.evaluate-evaluated.ensures in
-    answer-gives alone _ e r.ensures.number r.ensures.answer refl
+    record { answer = answer-gives alone _ e r.ensures.number r.ensures.answer refl }
 
 pub returns-in-Refused : goal.returns-in-Refused
 returns-in-Refused c =
     let r = c.refusal in
     let e = told-as evaluation_of c.in-Refused.is c.evaluate-evaluated.ensures in
-    answer-refuses alone _ e r.ensures.number r.ensures.answer
+    record { answer = answer-refuses alone _ e r.ensures.number r.ensures.answer }

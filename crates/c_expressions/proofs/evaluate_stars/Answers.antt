@@ -10,10 +10,10 @@ pub returns-in-Values : goal.returns-in-Values
 returns-in-Values c =
     let r = c.one in
     let e = told-as star_evaluation_of c.in-Values.is c.evaluate_stars-evaluated.ensures in
-    answer-gives alone _ e r.ensures.number r.ensures.answer refl
+    record { answer = answer-gives alone _ e r.ensures.number r.ensures.answer refl }
 
 pub returns-in-Refused : goal.returns-in-Refused
 returns-in-Refused c =
     let r = c.refusal in
     let e = told-as star_evaluation_of c.in-Refused.is c.evaluate_stars-evaluated.ensures in
-    answer-refuses alone _ e r.ensures.number r.ensures.answer
+    record { answer = answer-refuses alone _ e r.ensures.number r.ensures.answer }

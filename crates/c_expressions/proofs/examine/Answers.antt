@@ -10,10 +10,10 @@ pub returns-in-Accepted : goal.returns-in-Accepted
 returns-in-Accepted c =
     let r = c.one in
     let e = told-as examination_of c.in-Accepted.is c.examine-examination.ensures in
-    answer-gives alone _ e r.ensures.number r.ensures.answer refl
+    record { answer = answer-gives alone _ e r.ensures.number r.ensures.answer refl }
 
 pub returns-in-Refused : goal.returns-in-Refused
 returns-in-Refused c =
     let r = c.refusal in
     let e = told-as examination_of c.in-Refused.is c.examine-examination.ensures in
-    answer-refuses alone _ e r.ensures.number r.ensures.answer
+    record { answer = answer-refuses alone _ e r.ensures.number r.ensures.answer }

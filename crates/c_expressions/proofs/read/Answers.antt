@@ -14,16 +14,16 @@ returns-in-Found c =
     let node = c.in-Found.node in
     let is = told-as reading_of c.in-Found.is c.read-read.ensures in
     let same = ap₂ (λ (k p : ℕ). k ∷ p ∷ node.next ∷ node.first ∷ node.second ∷ []) c.kind_number.ensures c.payload.ensures in
-    answer-gives reading _ is r.ensures.number r.ensures.answer same
+    record { answer = answer-gives reading _ is r.ensures.number r.ensures.answer same }
 
 pub returns-in-End : goal.returns-in-End
 returns-in-End c =
     let r = c.one in
     let is = told-as reading_of c.in-End.is c.read-read.ensures in
-    answer-gives reading _ is r.ensures.number r.ensures.answer refl
+    record { answer = answer-gives reading _ is r.ensures.number r.ensures.answer refl }
 
 pub returns-in-Refused : goal.returns-in-Refused
 returns-in-Refused c =
     let r = c.refusal in
     let is = told-as reading_of c.in-Refused.is c.read-read.ensures in
-    answer-refuses reading _ is r.ensures.number r.ensures.answer
+    record { answer = answer-refuses reading _ is r.ensures.number r.ensures.answer }

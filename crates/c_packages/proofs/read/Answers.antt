@@ -10,16 +10,16 @@ pub returns-in-Found : goal.returns-in-Found
 returns-in-Found c =
     let r = c.six in
     let is = told-as rule_reading_of c.in-Found.is c.read_rule-reading.ensures in
-    answer-gives package_reading _ is r.ensures.number r.ensures.answer refl
+    record { answer = answer-gives package_reading _ is r.ensures.number r.ensures.answer refl }
 
 pub returns-in-End : goal.returns-in-End
 returns-in-End c =
     let r = c.one in
     let is = told-as rule_reading_of c.in-End.is c.read_rule-reading.ensures in
-    answer-gives package_reading _ is r.ensures.number r.ensures.answer refl
+    record { answer = answer-gives package_reading _ is r.ensures.number r.ensures.answer refl }
 
 pub returns-in-Refused : goal.returns-in-Refused
 returns-in-Refused c =
     let r = c.refusal in
     let is = told-as rule_reading_of c.in-Refused.is c.read_rule-reading.ensures in
-    answer-refuses package_reading _ is r.ensures.number r.ensures.answer
+    record { answer = answer-refuses package_reading _ is r.ensures.number r.ensures.answer }
