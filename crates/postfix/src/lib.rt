@@ -2,6 +2,7 @@
 // cleanup writes for a whole OR family and for an absorption. After `build_monomial`, `build_or_chain`, `xor_tree`, `emit_raw_anf` and parts of
 // `cleanup_anf_memo` of `anf_cleanup.rs`. It rests on the definitions of `rules`.
 #![tactic(auto)]
+
 ghost use Rattle.std.specs.Prelude.{[], ◌∷◌, map, ◌+◌, ◌-◌, ◌*◌, ◌≤◌, ◌<◌, eqb, length, take, drop};
 ghost use Rattle.rules.specs.Cleanup.{atop};
 ghost use Rattle.rules.specs.Form.{flags, cube, or_chain, folded};

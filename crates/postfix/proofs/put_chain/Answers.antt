@@ -14,28 +14,27 @@ use Rattle.postfix.proofs.put_chain.Goals as goal
 
 pub overflow_sub-left : goal.overflow_sub-left
 overflow_sub-left c =
-    let some : 0 < c.args.mask = c.pre.0 in
+    let some : 0 < c.args.mask = c.requires.0 in
     some
 
 pub overflow_cast-mask : goal.overflow_cast-mask
 overflow_cast-mask c =
-    let some : 0 < c.args.mask = c.pre.0 in
-    let fits : c.args.mask < 2 ^ 64 = c.fits.mask.fits in
+    let some : 0 < c.args.mask = c.requires.0 in
+    let fits : c.args.mask < 2 ^ 64 = c.ranges.mask.fits in
     omega (arith, trailing_lt 64 c.args.mask some fits)
 
 pub put_leaf-next-requires : goal.put_leaf-next-requires
 put_leaf-next-requires c =
     let mark : List ℕ = c.args.first ∷ c.args.second ∷ [] in
-    let some : 0 < c.args.mask = c.pre.0 in
-    let fits : c.args.mask < 2 ^ 64 = c.fits.mask.fits in
+    let some : 0 < c.args.mask = c.requires.0 in
+    let fits : c.args.mask < 2 ^ 64 = c.ranges.mask.fits in
     room-chain mark c.args.mask some fits c.requires.1
 
 pub loop-left-init : goal.loop-left-init
 loop-left-init c =
     let mark : List ℕ = c.args.first ∷ c.args.second ∷ [] in
-    let some : 0 < c.args.mask = c.pre.0 in
-    let fits : c.args.mask < 2 ^ 64 = c.fits.mask.fits in
-    (
+    let some : 0 < c.args.mask = c.requires.0 in
+    let fits : c.args.mask < 2 ^ 64 = c.ranges.mask.fits in (
       lt_trans (clear-lt 64 c.args.mask some fits) fits,
       room-links mark c.args.mask some fits c.put_leaf-next.ensures c.requires.1,
       λ b after w. w,
@@ -82,30 +81,29 @@ loop-left-preserved c =
     let mark : List ℕ = c.args.first ∷ c.args.second ∷ [] in
     let left : ℕ = c.loop-left.left in
     let more : 0 < left = omega arith in
-    let word : left < 2 ^ 64 = c.loop-left.invariant.0 in
-    (
+    let word : left < 2 ^ 64 = c.loop-left.invariant.0 in (
       lt_trans (clear-lt 64 left more word) word,
-      room-rest mark left more word c.put_leaf-flag.ensures c.put_mark-next.ensures c.loop-left.inv.1,
-      λ b after w. c.loop-left.inv.2 b after
+      room-rest mark left more word c.put_leaf-flag.ensures c.put_mark-next.ensures c.loop-left.invariant.1,
+      λ b after w. c.loop-left.invariant.2 b after
           (links-more mark left more word c.put_leaf-flag.ensures c.put_mark-next.ensures w),
     )
 
 pub shape_of-out : goal.shape_of-out
 shape_of-out c =
     let mark : List ℕ = c.args.first ∷ c.args.second ∷ [] in
-    let some : 0 < c.args.mask = c.pre.0 in
-    let fits : c.args.mask < 2 ^ 64 = c.fits.mask.fits in
-    let whole : Put (chained (mark entry) (flags entry.args.mask)) (2 * length (flags entry.args.mask) - 1) entry.args.at c.loop-left.next entry.args.out.now c.loop-left.out = let l = c.loop-left in
-    puts-chain (mark entry) entry.args.mask (some entry) (fits entry) c.put_leaf-next.ensures
-    (l.invariant.2 l.next l.out (links-none (mark entry) l.left l.next l.out l.invariant.1 c.loop-left-test.false)) in
+    let some : 0 < c.args.mask = c.requires.0 in
+    let fits : c.args.mask < 2 ^ 64 = c.ranges.mask.fits in
+    let whole : Put (chained mark (flags c.args.mask)) (2 * length (flags c.args.mask) - 1) c.args.at c.loop-left.next c.args.out.now c.loop-left.out = let l = c.loop-left in
+    puts-chain mark c.args.mask some fits c.put_leaf-next.ensures
+    (l.invariant.2 l.next l.out (links-none mark l.left l.next l.out l.invariant.1 c.loop-left-test.false)) in
     put-length whole
 
 pub returns : goal.returns
 returns c =
     let mark : List ℕ = c.args.first ∷ c.args.second ∷ [] in
-    let some : 0 < c.args.mask = c.pre.0 in
-    let fits : c.args.mask < 2 ^ 64 = c.fits.mask.fits in
-    let whole : Put (chained (mark entry) (flags entry.args.mask)) (2 * length (flags entry.args.mask) - 1) entry.args.at c.loop-left.next entry.args.out.now c.loop-left.out = let l = c.loop-left in
-    puts-chain (mark entry) entry.args.mask (some entry) (fits entry) c.put_leaf-next.ensures
-    (l.invariant.2 l.next l.out (links-none (mark entry) l.left l.next l.out l.invariant.1 c.loop-left-test.false)) in
+    let some : 0 < c.args.mask = c.requires.0 in
+    let fits : c.args.mask < 2 ^ 64 = c.ranges.mask.fits in
+    let whole : Put (chained mark (flags c.args.mask)) (2 * length (flags c.args.mask) - 1) c.args.at c.loop-left.next c.args.out.now c.loop-left.out = let l = c.loop-left in
+    puts-chain mark c.args.mask some fits c.put_leaf-next.ensures
+    (l.invariant.2 l.next l.out (links-none mark l.left l.next l.out l.invariant.1 c.loop-left-test.false)) in
     whole
