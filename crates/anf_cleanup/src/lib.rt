@@ -2,6 +2,7 @@
 // `find_best_factor` of `anf_cleanup.rs`. Nothing is written here. The cleanup and the best-cube search call each other, and the form's total
 // literals fall from one cleanup to the next. It rests on `form` and on `search`.
 #![tactic(auto)]
+
 ghost use Rattle.std.specs.Prelude.{true, ◌≡◌, ◌<◌, ◌≤◌, length};
 ghost use Rattle.form.specs.Masks.{masks};
 ghost use Rattle.mask_words.specs.Lookup.{mask_count, lookup_words};
@@ -99,7 +100,7 @@ fn factored(found: Best, cost: usize, rest: Choice) -> Plan
 }
 
 // The rule that wins for a form whose raw cost is `raw_cost`.
-#[cycle(best_cube_cleanup_common_cube_partial_or_try_cube)]
+#[cycle(cleanup)]
 pub fn cleanup(form: Form, raw_cost: usize, lookup: &Lookup) -> Plan
     requires { (raw_cost ≡ raw.raw_cost (masks form)) × (lookup.now ≡ lookup_words) }
     ensures { Planned (masks form) (paper.cleanup (masks form)) result }
@@ -124,7 +125,7 @@ pub fn cleanup(form: Form, raw_cost: usize, lookup: &Lookup) -> Plan
 }
 
 // Rule 2: the chain of the best family, in XO with the cleaned remainder.
-#[cycle(best_cube_cleanup_common_cube_partial_or_try_cube)]
+#[cycle(cleanup)]
 fn partial_or(form: Form, best: Plan, lookup: &Lookup) -> Plan
     requires { lookup.now ≡ lookup_words }
     ensures { Improved (masks form) (paper.partial_or paper.cleanup (masks form)) best result }
@@ -149,7 +150,7 @@ fn partial_or(form: Form, best: Plan, lookup: &Lookup) -> Plan
 }
 
 // Rule 3: the product of the best cube and the cleaned inner form, in XO with the cleaned remainder unless that is empty.
-#[cycle(best_cube_cleanup_common_cube_partial_or_try_cube)]
+#[cycle(cleanup)]
 fn common_cube(form: Form, best: Plan, lookup: &Lookup) -> Plan
     requires { lookup.now ≡ lookup_words }
     ensures { Improved (masks form) (paper.common_cube paper.cleanup (masks form)) best result }
@@ -177,7 +178,7 @@ fn common_cube(form: Form, best: Plan, lookup: &Lookup) -> Plan
 }
 
 // The cube of the greatest saving, the smallest of equal ones: every mask that two monomials contain is tried in ascending order.
-#[cycle(best_cube_cleanup_common_cube_partial_or_try_cube)]
+#[cycle(cleanup)]
 fn best_cube(form: Form, lookup: &Lookup) -> Factor
     requires { lookup.now ≡ lookup_words }
     ensures { Chosen (masks form) result }
@@ -201,7 +202,7 @@ fn best_cube(form: Form, lookup: &Lookup) -> Factor
 
 // The best after one more mask, if that is a candidate cube. Its inner form is cleaned for its cost, unless the cube could not be the best even at
 // the least that a form with these flags can cost.
-#[cycle(best_cube_cleanup_common_cube_partial_or_try_cube)]
+#[cycle(cleanup)]
 fn try_cube(form: Form, cube: usize, best: Best, lookup: &Lookup) -> Best
     requires { (lookup.now ≡ lookup_words) × (0 < cube) × (cube < mask_count) }
     ensures { Tried (masks form) cube best result }
