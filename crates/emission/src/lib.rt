@@ -2,6 +2,7 @@
 // choices that the plan has for them, and where a choice is left open the form is planned anew. Their total literals fall. It rests on `anf_cleanup`
 // and on `postfix`.
 #![tactic(auto)]
+
 ghost use Rattle.std.specs.Prelude.{◌≡◌};
 ghost use Rattle.anf_cleanup.specs.Plan.{built, Parts};
 ghost use Rattle.form.specs.Masks.{masks};
@@ -17,7 +18,7 @@ use mask_words::{Lookup, MASK_COUNT};
 use postfix::Cursor;
 
 // The cleaned form, by a choice that is right for it and choices that are right for its parts.
-#[cycle(emit_emit_cube_emit_open_emit_partial)]
+#[cycle(emit)]
 pub fn emit(
     form: Form,
     choice: Choice,
@@ -42,7 +43,7 @@ pub fn emit(
 }
 
 // A form that is still to be planned.
-#[cycle(emit_emit_cube_emit_open_emit_partial)]
+#[cycle(emit)]
 fn emit_open(form: Form, lookup: &Lookup, out: &mut [u8], at: Cursor) -> Cursor
     requires { (lookup.now ≡ lookup_words) × Room (write (paper.cleanup (masks form))) at out.old }
     ensures { Writes (paper.cleanup (masks form)) at result out.old out.new }
@@ -55,7 +56,7 @@ fn emit_open(form: Form, lookup: &Lookup, out: &mut [u8], at: Cursor) -> Cursor
 }
 
 // Rule 2: the chain of the mask in XO with the cleaned remainder.
-#[cycle(emit_emit_cube_emit_open_emit_partial)]
+#[cycle(emit)]
 fn emit_partial(
     form: Form,
     mask: usize,
@@ -75,7 +76,7 @@ fn emit_partial(
 }
 
 // Rule 3: the product of the cube and the cleaned inner form, in XO with the cleaned remainder unless that is empty.
-#[cycle(emit_emit_cube_emit_open_emit_partial)]
+#[cycle(emit)]
 fn emit_cube(
     form: Form,
     cube: usize,
