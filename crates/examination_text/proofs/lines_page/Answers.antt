@@ -16,7 +16,7 @@ returns-in_default c =
     let a = c.args in
     shows-eq
     (sym (table_none a.digits.now a.line.now (sym c.flag_count-size.ensures ∙ ap size_of c.in_default.is)))
-    c.not-IsTable.ensures
+    c.not_table.ensures
 
 pub returns-then-not-all_digits : goal.returns-then-not-all_digits
 returns-then-not-all_digits c =

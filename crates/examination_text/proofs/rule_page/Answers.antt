@@ -42,7 +42,7 @@ put_rule-end-requires c =
 pub slice_bounds-table-end : goal.slice_bounds-table-end
 slice_bounds-table-end c =
     let few : length c.args.digits.now ≤ 64 = omega (arith, flags-most c.args.flags c.requires.0, c.requires.1) in
-    omega (arith, few (c c), c.entries.auto.table)
+    omega (arith, few, c.entries.auto.table)
 
 pub slice_bounds-verdict_page-end : goal.slice_bounds-verdict_page-end
 slice_bounds-verdict_page-end c =
@@ -57,8 +57,7 @@ pub verdict_page-requires : goal.verdict_page-requires
 verdict_page-requires c =
     let few : length c.args.digits.now ≤ 64 = omega (arith, flags-most c.args.flags c.requires.0, c.requires.1) in
     let length_front : length (take (length c.args.digits.now) c.entries.new.table) ≡ length c.args.digits.now = length-take-le _ c.entries.new.table (omega (arith, few, c.entries.auto.table)) in
-    let s = c c in
-    (s.pre.0, omega (arith, length_front, s.pre.1))
+    (c.requires.0, omega (arith, length_front, c.requires.1))
 
 pub returns : goal.returns
 returns c =

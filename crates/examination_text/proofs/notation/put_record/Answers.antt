@@ -34,21 +34,18 @@ pub overflow_sub-text : goal.overflow_sub-text
 overflow_sub-text c =
     let size : (2 ≤ length c.args.text.now) × (length c.args.text.now ≤ 3) = record-size c.args.text.now c.requires.0 in
     let three : length c.args.text.now ≡ 3 = omega (arith, size, c.if-text-eq2.false) in
-    let s = c c in
-    omega (arith, record-digit s.args.text.now s.pre.0 three)
+    omega (arith, record-digit c.args.text.now c.requires.0 three)
 
 pub put_text-requires : goal.put_text-requires
 put_text-requires c =
     let size : (2 ≤ length c.args.text.now) × (length c.args.text.now ≤ 3) = record-size c.args.text.now c.requires.0 in
     let three : length c.args.text.now ≡ 3 = omega (arith, size, c.if-text-eq2.false) in
-    let s = c c in
-    room_next ((get_or s.args.text.now 2 0 - 48) ∷ []) (room-eq (bytes-three s.args.text.now three) s.pre.1)
-    (c c).put-text.ensures
+    room_next ((get_or c.args.text.now 2 0 - 48) ∷ []) (room-eq (bytes-three c.args.text.now three) c.requires.1)
+    c.put_text-end.ensures
 
 pub returns : goal.returns
 returns c =
     let size : (2 ≤ length c.args.text.now) × (length c.args.text.now ≤ 3) = record-size c.args.text.now c.requires.0 in
     let three : length c.args.text.now ≡ 3 = omega (arith, size, c.if-text-eq2.false) in
-    let s = c c in
-    stored-eq (sym (bytes-three s.args.text.now three))
-    (stored-append (c c).put-text.ensures c.put_text.ensures)
+    stored-eq (sym (bytes-three c.args.text.now three))
+    (stored-append c.put_text-end.ensures c.put_text.ensures)

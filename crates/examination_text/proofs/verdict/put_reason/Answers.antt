@@ -55,9 +55,7 @@ put_numbers-requires c = room-numbers limit record_limit records c.record_number
 
 pub put_numbers-requires-in_default : goal.put_numbers-requires-in_default
 unfolding ascii
-put_numbers-requires-in_default c =
-    let s = c c in
-    room-numbers costly s.args.refusal.place above c.raw_cost.result _ _ (search rules) c.raw_cost.type_inv (omega arith)
+put_numbers-requires-in_default c = room-numbers costly c.args.refusal.place above c.raw_cost.result _ _ (search rules) c.raw_cost.type_inv (omega arith)
 
 pub returns-in-6 : goal.returns-in-6
 unfolding ascii
@@ -99,7 +97,7 @@ returns-in-12 c = stored-eq (sym (reason-differs _ _ _ _ _ c.in-12.is)) c.put_di
 pub returns-in_default : goal.returns-in_default
 unfolding ascii above_raw
 returns-in_default c =
-    let a = (c c).args in
+    let a = c.args in
     let k = c.in_default.in_default-own.rest in
     stored-eq (ap (λ (raw : ℕ). costly ++ decimal a.refusal.place ++ (above ++ decimal raw)) c.raw_cost.ensures
     ∙ sym (reason-costly _ _ _ _ _ k.0.0.0.0.0.1 k.0.0.0.0.1 k.0.0.0.1 k.0.0.1 k.0.1 k.1)) c.put_numbers-in_default.ensures
