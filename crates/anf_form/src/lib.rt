@@ -1,6 +1,7 @@
 // The monomials of a form in their order and its raw cost, after `AnfForm::from_anf_coeffs` and `raw_anf_cost` of `anf_cleanup.rs`. It rests on
 // `form` and on `packed_anf`.
 #![tactic(auto)]
+
 mod degree;
 mod mask_order;
 mod words;

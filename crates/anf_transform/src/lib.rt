@@ -1,6 +1,7 @@
 // The binary Möbius transform between a rule table and the coefficients of its algebraic normal form, after `anf_transform.rs`: inside words, then
 // between words. The same XOR over subsets is the way back. It rests on `packed_anf` and on the definitions of `rules`.
 #![tactic(auto)]
+
 mod between;
 pub mod inside;
 pub mod pack;

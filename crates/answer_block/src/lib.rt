@@ -1,6 +1,7 @@
 // The answer of a call for C: numbers at the front of a lent block, as many of them as it has room for. The functions return what the call
 // returns: 0 after a result, the number of a refusal. It rests on the refusal that an answer can hold.
 #![tactic(auto)]
+
 ghost use Rattle.std.specs.Prelude.{[], ◌∷◌, ◌≡◌, set};
 ghost use Rattle.answer_block.specs.Block.{stored};
 

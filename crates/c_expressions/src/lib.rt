@@ -1,6 +1,7 @@
 // The calls on expressions, for C: the reader, evaluation at a setting and for 64 stars, costing, the cheaper of two and the examiner. Each answers
 // in numbers, in a lent block; the cheaper of two returns its number. It rests on these calls and on `answer_block`.
 #![tactic(auto)]
+
 ghost use Rattle.std.specs.Prelude.{◌≡◌};
 ghost use Rattle.expr.specs.Answers.{kind_of};
 ghost use Rattle.rules.specs.Calls;

@@ -1,6 +1,7 @@
 // The calls on packages, for C: the writer of one rule and the reader. Each answers in numbers, in a lent block. It rests on these calls and on
 // `answer_block`.
 #![tactic(auto)]
+
 ghost use Rattle.std.specs.Prelude.{◌≡◌, length};
 ghost use Rattle.rules.specs.Outcome.{left};
 ghost use Rattle.rule_package.specs.Calls.{write_rule, read_rule};

@@ -1,6 +1,7 @@
 // The calls on tables and coefficients, for C: the transform, the way back, the listing, raw costing and the compiler. Each answers in numbers, in a
 // lent block. It rests on these calls and on `answer_block`.
 #![tactic(auto)]
+
 ghost use Rattle.std.specs.Prelude.{◌≡◌, length};
 ghost use Rattle.compiler.specs.Answers.{bytes_of};
 ghost use Rattle.rules.specs.Calls;

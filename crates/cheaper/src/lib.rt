@@ -1,5 +1,6 @@
 // The cheaper of two expressions, by size and then depth, after `is_better` of `expr_cost.rs`. It rests on the costs of an expression.
 #![tactic(auto)]
+
 ghost use Rattle.std.specs.Prelude.{◌≡◌};
 ghost use Rattle.rules.specs.Calls;
 ghost use Rattle.rules.specs.Calls.{cheaper_of};

@@ -2,6 +2,7 @@
 // the tally of them all; bytes are compared by the kit. It rests on `bits`. Nothing here reads a file, so that every
 // function has its full promise.
 #![tactic(auto)]
+
 pub mod masks;
 pub mod outcome;
 pub mod tally;

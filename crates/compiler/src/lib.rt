@@ -2,6 +2,7 @@
 // follows its choices into a buffer of this call, so that the length is known before the first byte is written to the lent one. It rests on `table`,
 // `anf_cleanup` and `emission`.
 #![tactic(auto)]
+
 ghost use Rattle.std.specs.Prelude.{◌≡◌, ◌≤◌, length, take};
 ghost use Rattle.rules.specs.Calls;
 ghost use Rattle.rules.specs.Limits.{rule_flags};

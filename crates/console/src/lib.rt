@@ -2,6 +2,7 @@
 // result or the place. A table is bytes here, eight an entry, low byte first; a cut last entry doesn't count. `include/console.h` declares them. It
 // rests on `evaluation`, `examiner` and `table`.
 #![tactic(auto)]
+
 ghost use Rattle.std.specs.Prelude.{◌≡◌};
 ghost use Rattle.examiner.specs.Answers.{examination_of};
 ghost use Rattle.rules.specs.Calls;

@@ -1,6 +1,7 @@
 // Evaluation of an expression at one setting. Its walk keeps the truth values on the stack as the bits of a number (`packed_stack`); an expression
 // that fills that number is walked as 64 settings side by side, of which the first is the one asked for. It rests on `reader` and `lanes`.
 #![tactic(auto)]
+
 use crate::packed_stack::after;
 use lanes::Walked;
 use reader::Reading;

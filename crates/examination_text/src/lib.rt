@@ -2,6 +2,7 @@
 // records. It says whether the examiner accepts the rule, or in words which row of the refusal table refused it, and where.
 // It rests on `examiner` and on `text`.
 #![tactic(auto)]
+
 mod notation;
 mod verdict;
 

@@ -1,6 +1,7 @@
 // The examiner: whether an expression, whoever wrote it, is well formed, agrees with its table at every setting and costs no more than the raw
 // form. It walks the bytes once, with all settings of the table side by side in one word. It rests on `lanes` and `table`.
 #![tactic(auto)]
+
 ghost use Rattle.std.proofs.Math.Option.{none};
 ghost use Rattle.std.specs.Prelude.{◌≡◌, ◌≤◌};
 ghost use Rattle.rules.specs.Calls;

@@ -1,6 +1,7 @@
 // Records of an expression's bytes, after `expr.rs`: what a record is, and which one begins at a place by its mark, its payload and the number of
 // operands before it. It rests on the definitions of `rules`.
 #![tactic(auto)]
+
 ghost use Rattle.std.specs.Prelude.{◌≡◌, ◌+◌, ◌*◌, ◌<◌, length};
 ghost use Rattle.rules.specs.Record.{operand_count};
 ghost use Rattle.expr.specs.Answers.{found_of, kind_of};

@@ -1,6 +1,7 @@
 // Costs of an expression, after `expr_cost.rs` and `anf_expr_cost`: cost, size and depth in a walk over its records. A tree's size is its number of
 // records, and its cost is that less one for each OR whose first operand is an OR. It rests on `reader`.
 #![tactic(auto)]
+
 ghost use Rattle.std.specs.Prelude.{false, ◌≡◌, ◌-◌, ◌≤◌, max, length};
 ghost use Rattle.rules.specs.Calls;
 ghost use Rattle.rules.specs.Limits.{rule_flags};

@@ -2,6 +2,7 @@
 // not look at its word. Any set of masks is such a word; the cubes that a search tries are one too, walked by `first` and `rest`. It rests on
 // `mask_words`.
 #![tactic(auto)]
+
 ghost use Rattle.std.specs.Prelude.{not, [], ◌∷◌, map, ◌≡◌, ◌+◌, ◌*◌, ◌<◌, ◌≤◌, eqb, length, get_or, drop};
 ghost use Rattle.std.proofs.lemmas.List.Edits.{sets};
 ghost use Rattle.bits.specs.Bit.{bit, within, digit};

@@ -3,6 +3,7 @@
 // library has the functions of one crate, so they stand here by their names for C; it rests on `c_tables`, `c_expressions` and `c_packages`, which
 // answer.
 #![tactic(auto)]
+
 ghost use Rattle.std.specs.Prelude.{◌≡◌, length};
 ghost use Rattle.compiler.specs.Answers.{bytes_of};
 ghost use Rattle.rules.specs.Calls;

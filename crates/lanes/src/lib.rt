@@ -1,6 +1,7 @@
 // An expression at 64 settings side by side, one word for each flag: a walk over its records that answers the values in one word, and the cost of
 // the tree on the way. A tree costs one for each record, less one for each OR whose first operand is an OR. It rests on `reader`.
 #![tactic(auto)]
+
 ghost use Rattle.std.specs.Prelude.{◌≡◌, ◌-◌, ◌≤◌, ◌<◌, length, get_or};
 ghost use Rattle.rules.specs.Limits.{rule_flags};
 ghost use Rattle.rules.specs.Outcome.{gives};

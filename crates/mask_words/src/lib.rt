@@ -1,6 +1,7 @@
 // Constant words about masks of six flags, and the masks of a word listed. A word is a set of masks: bit m stands for the mask m. It rests on the
 // definitions of `rules`.
 #![tactic(auto)]
+
 ghost use Rattle.std.specs.Prelude.{map, ◌≡◌, ◌+◌, ◌<◌, ◌≤◌};
 ghost use Rattle.std.specs.Int.Count;
 ghost use Rattle.bits.specs.Range.{upto};

@@ -1,6 +1,7 @@
 // The reader of a package: the rule at a place, or the end. A rule that it gives is one that the examiner accepts against its own table. It rests on
 // `rule_package` for what a rule's bytes are, and on `examiner`.
 #![tactic(auto)]
+
 mod header;
 mod numbers;
 

@@ -1,6 +1,7 @@
 // The writer of a package: one rule, a flag count with the word of a table and an expression, at the front of a lent buffer. What it writes is a rule
 // that the examiner accepts. It rests on `rule_package` for what a rule's bytes are, and on `examiner`.
 #![tactic(auto)]
+
 mod bytes;
 
 ghost use Rattle.std.specs.Prelude.{◌≡◌, ◌≤◌, length};

@@ -1,6 +1,7 @@
 // Coefficients of an algebraic normal form in a slice of 64-bit words, after `packed_anf.rs`: coefficient m is bit m mod 64 of word m div 64.
 // It rests on the definitions of `rules`.
 #![tactic(auto)]
+
 ghost use Rattle.std.specs.Prelude.{◌≡◌, ◌/◌, ◌%◌, ◌<◌, ◌≤◌, ◌^◌, length};
 ghost use Rattle.rules.specs.Limits.{form_flags};
 ghost use Rattle.bits.specs.Bit.{digit};

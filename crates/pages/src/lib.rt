@@ -1,5 +1,6 @@
 // A page written to a file descriptor, for the programs whose output is one. It rests on `text` and on io.
 #![tactic(auto)]
+
 ghost use Rattle.std.specs.Prelude.{◌≡◌, ◌≤◌, length};
 ghost use Rattle.text.specs.Page.{page_bytes};
 

@@ -2,6 +2,7 @@
 // records from byte 0; `step` is the same for a walk over all of them, which keeps the first bytes of the operands so far (`keep`). It rests on
 // `expr` for a record's mark, payload and operands.
 #![tactic(auto)]
+
 ghost use Rattle.std.proofs.Math.Option.{some};
 ghost use Rattle.std.specs.Prelude.{◌≡◌, ◌^◌, ◌≤◌, ◌<◌, length, get_or, set};
 ghost use Rattle.rules.specs.Calls;

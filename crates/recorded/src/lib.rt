@@ -2,6 +2,7 @@
 // them; and how much a table takes. It rests on `comparison` for the form of an outcome. Reading the file itself is in
 // `replay`.
 #![tactic(auto)]
+
 pub mod numbers;
 pub mod results;
 pub mod sizes;

@@ -1,6 +1,7 @@
 // Each call of the library that a case can ask for, and its answer as an outcome. It rests on those calls; the promises say
 // that the outcome is the call's on paper.
 #![tactic(auto)]
+
 ghost use Rattle.std.specs.Prelude.{◌≡◌};
 ghost use Rattle.rules.specs.Calls as paper;
 ghost use Rattle.comparison.specs.Outcome.{refusal as refusal_of};

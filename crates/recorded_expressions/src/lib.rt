@@ -3,6 +3,7 @@
 // Nothing here reads a file, so that every function has its full promise; the formats of the files are in the data folder of
 // `replay_expressions`, which reads them.
 #![tactic(auto)]
+
 pub mod cases;
 pub mod choices;
 pub mod costs;

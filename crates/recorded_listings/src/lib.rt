@@ -3,6 +3,7 @@
 // that is short; the promises say that what is compared is the call on paper. `replay_expressions` reads the file; its data
 // folder has the format.
 #![tactic(auto)]
+
 ghost use Rattle.std.specs.Prelude.{◌≡◌, ◌+◌, ◌^◌, ◌≤◌, length, replicate};
 ghost use Rattle.rules.specs.Calls as paper;
 ghost use Rattle.comparison.specs.Called.{comes_to};

@@ -2,5 +2,6 @@
 // rests on these calls, on `recorded` for what the bytes of a file say and on `comparison`. Reading the files, whose formats are in the data folder
 // of `replay_packages`, and counting is there.
 #![tactic(auto)]
+
 pub mod readings;
 pub mod writings;

@@ -2,5 +2,6 @@
 // what the file says. It rests on these calls and the transform, on `recorded` for what the bytes of a file say and on
 // `comparison`. Reading the files, whose format is in the data folder of `replay_rules`, and counting is there.
 #![tactic(auto)]
+
 pub mod calls;
 pub mod one_rule;

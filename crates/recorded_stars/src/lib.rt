@@ -2,6 +2,7 @@
 // refusal. It rests on the call; the promise says that what is compared is the call on paper that the head's bytes ask. `replay_expressions` reads
 // the file; its data folder has the format.
 #![tactic(auto)]
+
 ghost use Rattle.std.specs.Prelude.{◌≡◌, ◌<◌};
 ghost use Rattle.rules.specs.Calls as paper;
 ghost use Rattle.recorded.specs.Numbers.{words_in};

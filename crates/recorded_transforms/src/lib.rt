@@ -2,6 +2,7 @@
 // file says. It rests on the two calls, on `recorded` for what the bytes of a file say and on `comparison`. Reading the
 // files, whose format is in the data folder of `replay_transforms`, and counting is there.
 #![tactic(auto)]
+
 pub mod calls;
 pub mod one_table;
 mod padded;

@@ -4,6 +4,7 @@
 // rests on `recorded_expressions`, `recorded_readings`, `recorded_stars` and `recorded_listings`, which compare; the formats
 // of the files are in data/README.md.
 #![tactic(auto)]
+
 mod cases;
 mod choices;
 mod costs;

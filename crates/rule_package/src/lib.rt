@@ -2,6 +2,7 @@
 // is read is written the same. The code is what the writer (`package_writer`) and the reader (`package_reader`) share. It rests on `packed_anf` and
 // `laws`.
 #![tactic(auto)]
+
 ghost use Rattle.std.specs.Prelude.{◌≡◌, ◌≤◌};
 ghost use Rattle.rules.specs.Limits.{package_flags};
 ghost use Rattle.rule_package.specs.Rule.{stray_bit};

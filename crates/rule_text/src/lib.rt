@@ -1,6 +1,7 @@
 // The printed text of a rule: the output of the printing program for its whole input. A line of digits is a rule table, whose expression the
 // compiler writes; it is printed as three lines. It rests on `compiler`, on the records of `expr` and on `text`.
 #![tactic(auto)]
+
 mod line;
 mod lines;
 

@@ -1,6 +1,7 @@
 // The searches of the cleanup that need no cleaned form: the partial OR's best family, the masks that two monomials contain, and whether a mask is a
 // candidate cube. It rests on `form` and `mask_words`.
 #![tactic(auto)]
+
 ghost use Rattle.std.specs.Prelude.{◌≡◌, ℕ, suc, ◌-◌, ◌%◌, ◌^◌, ◌<◌, leb, length};
 ghost use Rattle.bits.specs.Range.{from, keep};
 ghost use Rattle.bits.specs.Word.{places};

@@ -1,6 +1,7 @@
 // Evaluation of an expression for 64 stars at once: a word for each flag, in which bit j is star j's, and a word of values. After its two checks it
 // is the walk over the records that the examiner makes. It rests on `lanes`.
 #![tactic(auto)]
+
 ghost use Rattle.std.specs.Prelude.{◌≡◌};
 ghost use Rattle.rules.specs.Calls;
 ghost use Rattle.stars.specs.Answers.{star_evaluation_of};

@@ -1,6 +1,7 @@
 // A rule's table of at most six flags by value: one word, whose bit s is the table's bit at setting s. Whoever asks a table these questions need not
 // look at its word. It rests on `form`, `mask_words`, `anf_transform` and `packed_anf`.
 #![tactic(auto)]
+
 ghost use Rattle.std.specs.Prelude.{map, ◌≡◌, ◌*◌, ◌%◌, ◌≤◌, ◌<◌, ◌^◌, length};
 ghost use Rattle.bits.specs.Bit.{◌⊕◌, bit};
 ghost use Rattle.bits.specs.Range.{keep, upto};

@@ -48,11 +48,11 @@ count-requires c =
     let k : ℕ = c.word_count-words.result in
     let ws : List ℕ = c.args.coefficients.now in
     let passed : Passed n k ws = record {
-  few = omega arith;
-  words = c.word_count-words.ensures;
-  needed = omega arith;
-  clean = sym c.is_stray.ensures ∙ c.if-is_stray.false;
-} in
+      few = omega arith;
+      words = c.word_count-words.ensures;
+      needed = omega arith;
+      clean = sym c.is_stray.ensures ∙ c.if-is_stray.false;
+    } in
     omega (arith, word_count-most _ passed.few)
 
 pub overflow_sub-count : goal.overflow_sub-count
@@ -61,11 +61,11 @@ overflow_sub-count c =
     let k : ℕ = c.word_count-words.result in
     let ws : List ℕ = c.args.coefficients.now in
     let passed : Passed n k ws = record {
-  few = omega arith;
-  words = c.word_count-words.ensures;
-  needed = omega arith;
-  clean = sym c.is_stray.ensures ∙ c.if-is_stray.false;
-} in
+      few = omega arith;
+      words = c.word_count-words.ensures;
+      needed = omega arith;
+      clean = sym c.is_stray.ensures ∙ c.if-is_stray.false;
+    } in
     let masks : List ℕ = held k ws in
     let total : length (ordered (monomials masks)) + digit (packed ws 0) ≡ c.count.result = masks-count _ _ _ passed ∙ sym c.count.ensures in
     omega (arith, total)
@@ -76,11 +76,11 @@ returns-then-out-count c =
     let k : ℕ = c.word_count-words.result in
     let ws : List ℕ = c.args.coefficients.now in
     let passed : Passed n k ws = record {
-  few = omega arith;
-  words = c.word_count-words.ensures;
-  needed = omega arith;
-  clean = sym c.is_stray.ensures ∙ c.if-is_stray.false;
-} in
+      few = omega arith;
+      words = c.word_count-words.ensures;
+      needed = omega arith;
+      clean = sym c.is_stray.ensures ∙ c.if-is_stray.false;
+    } in
     let masks : List ℕ = held k ws in
     let total : length (ordered (monomials masks)) + digit (packed ws 0) ≡ c.count.result = masks-count _ _ _ passed ∙ sym c.count.ensures in
     let count : c.count.result - c.get-constant.result + digit (packed ws 0) ≡ length masks = omega (arith, total) in
@@ -93,11 +93,11 @@ list-requires c =
     let k : ℕ = c.word_count-words.result in
     let ws : List ℕ = c.args.coefficients.now in
     let passed : Passed n k ws = record {
-  few = omega arith;
-  words = c.word_count-words.ensures;
-  needed = omega arith;
-  clean = sym c.is_stray.ensures ∙ c.if-is_stray.false;
-} in
+      few = omega arith;
+      words = c.word_count-words.ensures;
+      needed = omega arith;
+      clean = sym c.is_stray.ensures ∙ c.if-is_stray.false;
+    } in
     let masks : List ℕ = held k ws in
     let total : length (ordered (monomials masks)) + digit (packed ws 0) ≡ c.count.result = masks-count _ _ _ passed ∙ sym c.count.ensures in
     let p = passed in
@@ -109,11 +109,11 @@ returns c =
     let k : ℕ = c.word_count-words.result in
     let ws : List ℕ = c.args.coefficients.now in
     let passed : Passed n k ws = record {
-  few = omega arith;
-  words = c.word_count-words.ensures;
-  needed = omega arith;
-  clean = sym c.is_stray.ensures ∙ c.if-is_stray.false;
-} in
+      few = omega arith;
+      words = c.word_count-words.ensures;
+      needed = omega arith;
+      clean = sym c.is_stray.ensures ∙ c.if-is_stray.false;
+    } in
     let masks : List ℕ = held k ws in
     let total : length (ordered (monomials masks)) + digit (packed ws 0) ≡ c.count.result = masks-count _ _ _ passed ∙ sym c.count.ensures in
     let count : c.count.result - c.get-constant.result + digit (packed ws 0) ≡ length masks = omega (arith, total) in

@@ -52,12 +52,11 @@ pub slice_bounds-transform_table-end-2 : goal.slice_bounds-transform_table-end-2
 slice_bounds-transform_table-end-2 c = sym (length-take-le c.word_count-count.result c.args.out.now (search rules))
 
 pub transform_table-requires : goal.transform_table-requires
-transform_table-requires c =
-    (
-      search rules,
-      omega arith,
-      length-take-le c.word_count-count.result c.args.out.now (search rules) ∙ c.word_count-count.ensures,
-    )
+transform_table-requires c = (
+  search rules,
+  omega arith,
+  length-take-le c.word_count-count.result c.args.out.now (search rules) ∙ c.word_count-count.ensures,
+)
 
 pub returns : goal.returns
 unfolding fill transform

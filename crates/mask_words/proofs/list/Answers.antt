@@ -72,15 +72,14 @@ pub loop-left-preserved : goal.loop-left-preserved
 loop-left-preserved c =
     let some : 0 < c.loop-left.left = omega arith in
     let lowest : (let v = c.loop-left.left in places 64 v ≡ count_trailing_zeros 64 v ∷ places 64 (bit_and v (v - 1))) = places-lowest 64 c.loop-left.left some c.loop-left.invariant.0 in
-    let falls : bit_and c.loop-left.left (c.loop-left.left - 1) < c.loop-left.left = clear-lt 64 c.loop-left.left some c.loop-left.invariant.0 in
-    (
-  omega (arith, falls),
-  simp length-set c.loop-left.invariant.1,
-  omega (arith, ap length lowest),
-  rw (add-one c.loop-left.next)
-      (ap (λ (l : List ℕ). sets c.loop-left.out c.loop-left.next (map (λ j. c.args.base + j) l)) (sym lowest)
-      ∙ c.loop-left.invariant.3),
-)
+    let falls : bit_and c.loop-left.left (c.loop-left.left - 1) < c.loop-left.left = clear-lt 64 c.loop-left.left some c.loop-left.invariant.0 in (
+      omega (arith, falls),
+      simp length-set c.loop-left.invariant.1,
+      omega (arith, ap length lowest),
+      rw (add-one c.loop-left.next)
+          (ap (λ (l : List ℕ). sets c.loop-left.out c.loop-left.next (map (λ j. c.args.base + j) l)) (sym lowest)
+          ∙ c.loop-left.invariant.3),
+    )
 
 pub shape_of-out : goal.shape_of-out
 shape_of-out c = c.loop-left.invariant.1

@@ -38,14 +38,14 @@ returns-in_default c =
     let digits : List ℕ = c.args.digits.now in
     let after : List ℕ = c.build_anf_expr-answer.new.out in
     let answered : Answered flags (values digits) after c.build_anf_expr-answer.result = record {
-  flags = c.requires.0;
-  complete = omega (arith, length-values digits, c.requires.1);
-  room = c.build_anf_expr-answer.auto.out;
-  told =
-      c.build_anf_expr-answer.ensures.answer
-      ∙ ap (λ (t : List ℕ). compile flags t byte_limit)
-      (entries-front digits (replicate 64 0) _ few c.entries.ensures);
-} in
+      flags = c.requires.0;
+      complete = omega (arith, length-values digits, c.requires.1);
+      room = c.build_anf_expr-answer.auto.out;
+      told =
+          c.build_anf_expr-answer.ensures.answer
+          ∙ ap (λ (t : List ℕ). compile flags t byte_limit)
+          (entries-front digits (replicate 64 0) _ few c.entries.ensures);
+    } in
     absurd (never-refused answered _ c.in_default.is)
 
 pub slice_bounds-expression-end : goal.slice_bounds-expression-end
@@ -55,14 +55,14 @@ slice_bounds-expression-end c =
     let digits : List ℕ = c.args.digits.now in
     let after : List ℕ = c.build_anf_expr-answer.new.out in
     let answered : Answered flags (values digits) after c.build_anf_expr-answer.result = record {
-  flags = c.requires.0;
-  complete = omega (arith, length-values digits, c.requires.1);
-  room = c.build_anf_expr-answer.auto.out;
-  told =
-      c.build_anf_expr-answer.ensures.answer
-      ∙ ap (λ (t : List ℕ). compile flags t byte_limit)
-      (entries-front digits (replicate 64 0) _ few c.entries.ensures);
-} in
+      flags = c.requires.0;
+      complete = omega (arith, length-values digits, c.requires.1);
+      room = c.build_anf_expr-answer.auto.out;
+      told =
+          c.build_anf_expr-answer.ensures.answer
+          ∙ ap (λ (t : List ℕ). compile flags t byte_limit)
+          (entries-front digits (replicate 64 0) _ few c.entries.ensures);
+    } in
     let rule : Expression = c.in-Written.rule in
     let within : rule.bytes ≤ length after = count-told answered rule c.in-Written.is in
     within
@@ -74,14 +74,14 @@ slice_bounds-rule_page-end c =
     let digits : List ℕ = c.args.digits.now in
     let after : List ℕ = c.build_anf_expr-answer.new.out in
     let answered : Answered flags (values digits) after c.build_anf_expr-answer.result = record {
-  flags = c.requires.0;
-  complete = omega (arith, length-values digits, c.requires.1);
-  room = c.build_anf_expr-answer.auto.out;
-  told =
-      c.build_anf_expr-answer.ensures.answer
-      ∙ ap (λ (t : List ℕ). compile flags t byte_limit)
-      (entries-front digits (replicate 64 0) _ few c.entries.ensures);
-} in
+      flags = c.requires.0;
+      complete = omega (arith, length-values digits, c.requires.1);
+      room = c.build_anf_expr-answer.auto.out;
+      told =
+          c.build_anf_expr-answer.ensures.answer
+          ∙ ap (λ (t : List ℕ). compile flags t byte_limit)
+          (entries-front digits (replicate 64 0) _ few c.entries.ensures);
+    } in
     let rule : Expression = c.in-Written.rule in
     let within : rule.bytes ≤ length after = count-told answered rule c.in-Written.is in
     sym (length-take-le rule.bytes after within)
@@ -93,14 +93,14 @@ rule_page-requires c =
     let digits : List ℕ = c.args.digits.now in
     let after : List ℕ = c.build_anf_expr-answer.new.out in
     let answered : Answered flags (values digits) after c.build_anf_expr-answer.result = record {
-  flags = c.requires.0;
-  complete = omega (arith, length-values digits, c.requires.1);
-  room = c.build_anf_expr-answer.auto.out;
-  told =
-      c.build_anf_expr-answer.ensures.answer
-      ∙ ap (λ (t : List ℕ). compile flags t byte_limit)
-      (entries-front digits (replicate 64 0) _ few c.entries.ensures);
-} in
+      flags = c.requires.0;
+      complete = omega (arith, length-values digits, c.requires.1);
+      room = c.build_anf_expr-answer.auto.out;
+      told =
+          c.build_anf_expr-answer.ensures.answer
+          ∙ ap (λ (t : List ℕ). compile flags t byte_limit)
+          (entries-front digits (replicate 64 0) _ few c.entries.ensures);
+    } in
     let rule : Expression = c.in-Written.rule in
     printable-told answered rule c.in-Written.is
 
@@ -111,13 +111,13 @@ returns c =
     let digits : List ℕ = c.args.digits.now in
     let after : List ℕ = c.build_anf_expr-answer.new.out in
     let answered : Answered flags (values digits) after c.build_anf_expr-answer.result = record {
-  flags = c.requires.0;
-  complete = omega (arith, length-values digits, c.requires.1);
-  room = c.build_anf_expr-answer.auto.out;
-  told =
-      c.build_anf_expr-answer.ensures.answer
-      ∙ ap (λ (t : List ℕ). compile flags t byte_limit)
-      (entries-front digits (replicate 64 0) _ few c.entries.ensures);
-} in
+      flags = c.requires.0;
+      complete = omega (arith, length-values digits, c.requires.1);
+      room = c.build_anf_expr-answer.auto.out;
+      told =
+          c.build_anf_expr-answer.ensures.answer
+          ∙ ap (λ (t : List ℕ). compile flags t byte_limit)
+          (entries-front digits (replicate 64 0) _ few c.entries.ensures);
+    } in
     let rule : Expression = c.in-Written.rule in
     shows-eq (report-told answered rule c.in-Written.is) c.rule_page.ensures

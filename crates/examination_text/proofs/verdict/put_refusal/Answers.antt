@@ -32,8 +32,7 @@ pub put_reason-requires : goal.put_reason-requires
 unfolding ascii
 put_reason-requires c =
     let row : c.args.refusal.number < 2 ^ 64 = omega arith in
-    let short : c.put_number-end.result ≤ 35 = omega (arith, number_short first c.args.refusal.number row c.put_number-end.ensures) in
-    (
+    let short : c.put_number-end.result ≤ 35 = omega (arith, number_short first c.args.refusal.number row c.put_number-end.ensures) in (
       c.requires.0,
       c.requires.1,
       omega (arith, short, stored-length c.put_number-end.ensures, c.put_text-start.ensures.place, stored-length c.put_text-start.ensures),

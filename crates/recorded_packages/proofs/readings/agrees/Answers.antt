@@ -23,5 +23,8 @@ slice_bounds-asked-end-3 c = sym (length-take-le _ _ (simp length-set (search ru
 
 pub returns : goal.returns
 returns c =
-    record { answer = agrees-changed _ _ c.half_at-handed.ensures.0 c.if-handed-bytes.false c.half_at-at.ensures.0 c.byte_at.ensures.0
-          c.byte_at.ensures.1 c.low_byte.ensures c.asked-is_same.ensures; lent = put_back _ _ _ }
+    record {
+      answer = agrees-changed _ _ c.half_at-handed.ensures.0 c.if-handed-bytes.false c.half_at-at.ensures.0 c.byte_at.ensures.0
+          c.byte_at.ensures.1 c.low_byte.ensures c.asked-is_same.ensures;
+      lent = put_back _ _ _;
+    }
