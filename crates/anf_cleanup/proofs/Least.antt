@@ -137,7 +137,8 @@ module _ (l : List ℕ) (a : Ascending l) (o : 0 < union l)
             floor-ge (ones (union (stripped c l))),
           )
 
-      go : (x : List ℕ) → literals x < literals l → Ascending x → constant x ≡ constant l → union l ≡ bit_or b (union x) → Least (with_rest cleanup t x)
+      go : (x : List ℕ) → literals x < literals l → Ascending x → constant x ≡ constant l → union l ≡ bit_or b (union x) → Least
+          (with_rest cleanup t x)
       go [] less s e w = omega (arith, named, ap digit e, ap ones (w ∙ or_zero_r b), floor-le (ones (union l)))
       go (m ∷ x) less s e w = least-joined t b (m ∷ x) named less s e w
 

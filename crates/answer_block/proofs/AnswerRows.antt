@@ -63,7 +63,8 @@ reading-rows = tt
 -- `enum guide_rules_package_kind`
 pub package-rows :
     T (
-    same (numbers package_reading (gives (some (record { flags = 2; table = 14; start = 13; length = 8; next = 21 })))) (1 ∷ 2 ∷ 14 ∷ 13 ∷ 8 ∷ 21 ∷ [])
+    same (numbers package_reading (gives (some (record { flags = 2; table = 14; start = 13; length = 8; next = 21 }))))
+    (1 ∷ 2 ∷ 14 ∷ 13 ∷ 8 ∷ 21 ∷ [])
     && same (numbers package_reading (gives none)) (0 ∷ [])
     && same (numbers package_reading (refuses 15 21)) (21 ∷ [])
     )

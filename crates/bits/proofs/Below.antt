@@ -1,5 +1,5 @@
--- A bounded list, entry by entry: the bound holds of `get_or` at every index, past the end too, where the default is below it, and of the list's parts.
--- It rests on the definition of `Below`.
+-- A bounded list, entry by entry: the bound holds of `get_or` at every index, past the end too, where the default is below it, and of the list's
+-- parts. It rests on the definition of `Below`.
 --   below-get_or, get_or-below   == from the list's bound to its entries', and back
 --   below-take, below-drop   == of a list's front and of what is behind it
 use mathlib.Core.List.{List, [], ◌∷◌}

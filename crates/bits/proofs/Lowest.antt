@@ -68,7 +68,8 @@ module _ (k w : ℕ) (p : 0 < w) (h : w < 2 ^ k) where
   bit-at i l = let c = cut-lowest k w p h in ap (λ (x : ℕ). bit x i) c.cut ∙ bit_cut c.q (count_trailing_zeros k w) i l
 
   pub bit-trailing : bit w (count_trailing_zeros k w) ≡ true
-  bit-trailing = bit-at (count_trailing_zeros k w) (le_refl (count_trailing_zeros k w)) ∙ eq-eqb (count_trailing_zeros k w) (count_trailing_zeros k w) refl
+  bit-trailing = bit-at (count_trailing_zeros k w) (le_refl (count_trailing_zeros k w)) ∙ eq-eqb (count_trailing_zeros k w)
+      (count_trailing_zeros k w) refl
 
   pub below-trailing : (i : ℕ) → i < count_trailing_zeros k w → bit w i ≡ false
   below-trailing i l = bit-at i (le_of_lt l) ∙ ne_eqb i (count_trailing_zeros k w) (omega arith)

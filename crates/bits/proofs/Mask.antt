@@ -175,7 +175,8 @@ within-split c m s h =
 
 pub ones-add : (a b : ℕ) → bit_and a b ≡ 0 → ones (a + b) ≡ ones a + ones b
 unfolding ones
-ones-add = bin_ind (λ (a : ℕ). (b : ℕ) → bit_and a b ≡ 0 → ones (a + b) ≡ ones a + ones b) (λ b e. ap ones (zero-add b) ∙ sym (zero-add (ones b))) step
+ones-add = bin_ind (λ (a : ℕ). (b : ℕ) → bit_and a b ≡ 0 → ones (a + b) ≡ ones a + ones b)
+    (λ b e. ap ones (zero-add b) ∙ sym (zero-add (ones b))) step
   where
     step : (a : ℕ) → ((b : ℕ) → bit_and (a / 2) b ≡ 0 → ones (a / 2 + b) ≡ ones (a / 2) + ones b)
         → (b : ℕ) → bit_and a b ≡ 0 → ones (a + b) ≡ ones a + ones b

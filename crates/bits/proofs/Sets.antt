@@ -118,7 +118,8 @@ module _ (k w : ℕ) (h : w < 2 ^ k) (p : 0 < length (places k w)) where
   pub places-rest : places k (bit_and w (w - 1)) ≡ drop 1 (places k w)
   places-rest = sym (ap (drop 1) (places-lowest k w places-positive h))
 
-pub places-two : (k w : ℕ) → w < 2 ^ k → length (places k w) ≡ 2 → places k w ≡ count_trailing_zeros k w ∷ count_trailing_zeros k (bit_and w (w - 1)) ∷ []
+pub places-two : (k w : ℕ) → w < 2 ^ k → length (places k w) ≡ 2 → places k w ≡ count_trailing_zeros k w ∷ count_trailing_zeros k
+    (bit_and w (w - 1)) ∷ []
 places-two k w h e =
     let r = bit_and w (w - 1) in
     let first = places-lowest k w (places-positive k w h (omega arith)) h in

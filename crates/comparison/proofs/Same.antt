@@ -4,7 +4,31 @@
 --   front_same      == fronts that agree, one entry further
 --   same_whole      == lists whose fronts agree to the end are the same
 --   same-tells      == a truth value that tells whether two lists are equal
-use Rattle.std.proofs.Common.{◌≡◌, ℕ, ◌+◌, ◌<◌, ◌≤◌, Bool, true, false, List, [], ◌∷◌, ◌++◌, length, get_or, take, sym, refl, ap, ◌∙◌, ap₂, add-one, take_all, take-suc}
+use Rattle.std.proofs.Common.{
+  ◌≡◌,
+  ℕ,
+  ◌+◌,
+  ◌<◌,
+  ◌≤◌,
+  Bool,
+  true,
+  false,
+  List,
+  [],
+  ◌∷◌,
+  ◌++◌,
+  length,
+  get_or,
+  take,
+  sym,
+  refl,
+  ap,
+  ◌∙◌,
+  ap₂,
+  add-one,
+  take_all,
+  take-suc,
+}
 use Rattle.bits.specs.Range.{same}
 use Rattle.bits.proofs.Range.{same_true, same_refl}
 use Rattle.bits.proofs.Truth.{bool-ext}

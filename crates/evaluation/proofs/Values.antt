@@ -35,7 +35,8 @@ module _ (n at : ℕ) (few : n ≤ rule_flags) (h : at < 2 ^ n) where
 
   value-lane : (t : Tree) → digit (value t at) ≡ star_values n (setting_words at) t % 2
   value-lane t =
-      let is : bit (star_values n (setting_words at) t) 0 ≡ value t at = bit-star_values n (setting_words at) t 0 (lit< tt) ∙ ap (value t) lane_first in
+      let is : bit (star_values n (setting_words at) t) 0 ≡ value t at =
+      bit-star_values n (setting_words at) t 0 (lit< tt) ∙ ap (value t) lane_first in
       omega (arith, ap digit is, digit-bit (star_values n (setting_words at) t) 0)
 
   pub evaluated-lane : (s : List ℕ) → evaluated n s at ≡ seen n s (setting_words at) then (λ v. gives (v.values % 2))

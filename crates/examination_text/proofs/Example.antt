@@ -35,7 +35,9 @@ pub record Case : Type 0 where
 
 pub writes : List ℕ → List ℕ → Bool
 unfolding same ascii all any keep from sum bit within places below turns fixed ones ones_in coefficient form term_cost raw_cost
-    with_table table_form differences judged examine leaf binary unary push operands record_turn turn finish run made mark marked plain loaded record_at
+    with_table table_form differences judged examine leaf binary unary push operands record_turn turn finish run made mark marked plain
+    loaded
+    record_at
     decimal_turn decimal first_of flags_of cost value attach split record_texts is_record record_bytes expression record_of
     flag_names difference beyond_limit above_raw reason verdict_text of_rule of_table of_lines verdict_page
 writes s out = same (verdict_page s) out

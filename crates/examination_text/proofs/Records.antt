@@ -66,7 +66,8 @@ record-two (a ∷ []) h e f = absurd (omega arith)
 record-two (a ∷ b ∷ []) h e f = rw (e, f)
 record-two (a ∷ b ∷ d ∷ u) h e f = absurd (omega arith)
 
-pub record-three : (t : List ℕ) → length t ≡ 3 → is_capital (get_or t 0 0) ≡ true → is_capital (get_or t 1 0) ≡ true → is_record t ≡ is_numeral (get_or t 2 0)
+pub record-three : (t : List ℕ) → length t ≡ 3 → is_capital (get_or t 0 0) ≡ true → is_capital (get_or t 1 0) ≡ true → is_record t ≡ is_numeral
+    (get_or t 2 0)
 unfolding is_record all
 record-three [] h e f = absurd (omega arith)
 record-three (a ∷ []) h e f = absurd (omega arith)

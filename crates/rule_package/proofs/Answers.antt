@@ -23,7 +23,8 @@ use Rattle.rule_package.specs.Calls.{write_rule, RuleAt, rule_at, rule_in, rule_
 use Rattle.rule_package.specs.Rule.{Rule, rule_bytes, package_bytes, stray_bit, examine_rule}
 
 unfoldable pub packaging : Unit {0}
-unfolding computing low_first low_bytes rule_bytes package_bytes stray_bit examine_rule write_rule rule_at rule_in rule_from placed headed in_package read_rule
+unfolding computing low_first low_bytes rule_bytes package_bytes stray_bit examine_rule write_rule rule_at rule_in rule_from placed headed in_package
+    read_rule
 packaging = tt
 
 unfoldable pub rule : ℕ → ℕ → String → Rule

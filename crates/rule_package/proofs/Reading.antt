@@ -70,7 +70,8 @@ unfolding package_bytes placed
 reads-placed [] a h limit = ends_read (a ++ []) (length a) record { limit = limit; past = simp length-append (omega arith) }
 reads-placed (r ∷ rs) a h limit = (
   sound-read r a (package_bytes rs) h.0 limit,
-  subst (λ (s : List ℕ). Reads s (rule_from (length a) r).next (placed (rule_from (length a) r).next rs)) (append_assoc a (rule_bytes r) (package_bytes rs))
+  subst (λ (s : List ℕ). Reads s (rule_from (length a) r).next (placed (rule_from (length a) r).next rs))
+      (append_assoc a (rule_bytes r) (package_bytes rs))
       (rw (← next-rule_from a r) (reads-placed rs (a ++ rule_bytes r) h.1 (rw append_assoc limit))),
 )
 

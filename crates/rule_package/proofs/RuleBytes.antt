@@ -76,5 +76,10 @@ module _ (s : List ℕ) (small : Below 256 s) where
   unfolding rule_bytes rule_in rule_at
   rule_bytes-rule_in p mark whole fits =
       let k : ℕ = low_first (part s (p + 3) 2) in
-      rw (length_part s (p + header_length) k fits, number-again s (p + 3) small 2 (omega arith), number-again s (p + 5) small 8 (omega arith), ← mark)
+      rw (
+        length_part s (p + header_length) k fits,
+        number-again s (p + 3) small 2 (omega arith),
+        number-again s (p + 5) small 8 (omega arith),
+        ← mark,
+      )
       (rw (← part-one s (p + 2) (omega arith), ← part-add s p 2 1, ← part-add s p 3 2, ← part-add s p 5 8) (sym (part-add s p header_length k)))

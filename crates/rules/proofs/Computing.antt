@@ -29,8 +29,10 @@ use Rattle.rules.specs.Tree.{value, cost, size, depth, write, mentioned}
 unfoldable pub computing : Unit {0}
 unfolding bit within below turns fixed from keep all any same sum places word ones ones_in ascii with_table with_coefficients with_room fill transform
     way_back listed listing terms raw_costing table_form compiled compilation compile read parse evaluate costing smaller cheaper_of cheaper_of_two
-    differences judged examine family atop better greatest singles is_family is_partial best_family partial_at partial_or meets covered stripped is_cube
-    cube_saving best_cube with_rest cube_at common_cube absorb absorption cheaper contest turn cleanup coefficient word_count packed stray word_of words
+    differences judged examine family atop better greatest singles is_family is_partial best_family partial_at partial_or meets covered stripped
+    is_cube
+    cube_saving best_cube with_rest cube_at common_cube absorb absorption cheaper contest turn cleanup coefficient word_count packed stray word_of
+    words
     entry_at entries chain halves raw_form term_cost raw_cost leaf binary unary push operands record_turn machine_turn finish run made node_from
     nodes sought form precedes insert ordered product polynomial
     mark marked plain loaded record_at decimal_turn decimal records report first_of flags_of is_line printed_as printed value cost size depth write

@@ -101,7 +101,12 @@ list-requires c =
     let masks : List ℕ = held k ws in
     let total : length (ordered (monomials masks)) + digit (packed ws 0) ≡ c.count.result = masks-count _ _ _ passed ∙ sym c.count.ensures in
     let p = passed in
-    record { flags_le_form_flags = omega (arith, word_count-most _ p.few); below = masks-below _ _ _ p; coefficients_in_bounds = omega (arith, total, length-ordered (monomials masks)) }
+    record {
+      flags_le_form_flags = omega (arith, word_count-most _ p.few);
+      below = masks-below _ _ _ p;
+      coefficients_in_bounds = omega
+          (arith, total, length-ordered (monomials masks));
+    }
 
 pub returns : goal.returns
 returns c =

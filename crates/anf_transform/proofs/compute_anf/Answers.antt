@@ -42,7 +42,8 @@ returns-then-out-count c =
     let due : List ℕ = words c.args.flags (coefficient c.args.flags (entry c.args.table.now)) in
     let call : Outcome (List ℕ) = transform c.args.flags c.args.table.now (length c.args.out.now) in
     let due-length : length due ≡ word_count c.args.flags = length-words c.args.flags (coefficient c.args.flags (entry c.args.table.now)) in
-    let passed : call ≡ fill (length c.args.out.now) due = table-complete form_flags c.args.flags c.args.table.now (fill (length c.args.out.now) due) (omega arith) (omega arith) in
+    let passed : call ≡ fill (length c.args.out.now) due =
+    table-complete form_flags c.args.flags c.args.table.now (fill (length c.args.out.now) due) (omega arith) (omega arith) in
     let n : length due ≡ c.word_count-count.result = due-length ∙ sym c.word_count-count.ensures in
     let both = left-refuses c.args.out.now call 5 c.word_count-count.result
     (passed ∙ room-short (length c.args.out.now) due (gives due) (omega arith) ∙ ap (refuses 5) n) in
@@ -64,7 +65,8 @@ returns c =
     let due : List ℕ = words c.args.flags (coefficient c.args.flags (entry c.args.table.now)) in
     let call : Outcome (List ℕ) = transform c.args.flags c.args.table.now (length c.args.out.now) in
     let due-length : length due ≡ word_count c.args.flags = length-words c.args.flags (coefficient c.args.flags (entry c.args.table.now)) in
-    let passed : call ≡ fill (length c.args.out.now) due = table-complete form_flags c.args.flags c.args.table.now (fill (length c.args.out.now) due) (omega arith) (omega arith) in
+    let passed : call ≡ fill (length c.args.out.now) due =
+    table-complete form_flags c.args.flags c.args.table.now (fill (length c.args.out.now) due) (omega arith) (omega arith) in
     let k = c.word_count-count.result in
     let n : length due ≡ k = due-length ∙ sym c.word_count-count.ensures in
     let after = c.transform_table.new.out ++ drop k c.args.out.now in

@@ -54,7 +54,8 @@ returns-then-out-settings c =
     let due : List ℕ = map (λ i. digit (coefficient c.args.flags (packed c.args.coefficients.now) i)) (settings c.args.flags) in
     let call : Outcome (List ℕ) = way_back c.args.flags c.args.coefficients.now (length c.args.out.now) in
     let last : Outcome (List ℕ) = fill (length c.args.out.now) due in
-    let due-length : length due ≡ 2 ^ c.args.flags = length-map-upto (2 ^ c.args.flags) (λ i. digit (coefficient c.args.flags (packed c.args.coefficients.now) i)) in
+    let due-length : length due ≡ 2 ^ c.args.flags =
+    length-map-upto (2 ^ c.args.flags) (λ i. digit (coefficient c.args.flags (packed c.args.coefficients.now) i)) in
     let passed : call ≡ last = coefficients-clean form_flags c.args.flags c.args.coefficients.now last (search rules) (omega arith)
     (sym c.is_stray.ensures ∙ c.if-is_stray.false) in
     let n : length due ≡ c.setting_count-settings.result = due-length ∙ sym c.setting_count-settings.ensures in
@@ -68,7 +69,8 @@ returns c =
     let due : List ℕ = map (λ i. digit (coefficient c.args.flags (packed c.args.coefficients.now) i)) (settings c.args.flags) in
     let call : Outcome (List ℕ) = way_back c.args.flags c.args.coefficients.now (length c.args.out.now) in
     let last : Outcome (List ℕ) = fill (length c.args.out.now) due in
-    let due-length : length due ≡ 2 ^ c.args.flags = length-map-upto (2 ^ c.args.flags) (λ i. digit (coefficient c.args.flags (packed c.args.coefficients.now) i)) in
+    let due-length : length due ≡ 2 ^ c.args.flags =
+    length-map-upto (2 ^ c.args.flags) (λ i. digit (coefficient c.args.flags (packed c.args.coefficients.now) i)) in
     let passed : call ≡ last = coefficients-clean form_flags c.args.flags c.args.coefficients.now last (search rules) (omega arith)
     (sym c.is_stray.ensures ∙ c.if-is_stray.false) in
     let n : length due ≡ c.setting_count-settings.result = due-length ∙ sym c.setting_count-settings.ensures in

@@ -26,26 +26,31 @@ slice_bounds-words-end c =
 pub slice_bounds-words-end-2 : goal.slice_bounds-words-end-2
 slice_bounds-words-end-2 c =
     let room : c.word_count-count.result ≤ length c.args.out.now = omega (arith, word_count-le c.args.flags) in
-    let lent : length (take c.word_count-count.result c.args.out.now) ≡ word_count c.args.flags = length-take-le c.word_count-count.result c.args.out.now room ∙ c.word_count-count.ensures in
+    let lent : length (take c.word_count-count.result c.args.out.now) ≡ word_count c.args.flags =
+    length-take-le c.word_count-count.result c.args.out.now room ∙ c.word_count-count.ensures in
     c.word_count-count.ensures ∙ sym lent
 
 pub copy-requires : goal.copy-requires
 copy-requires c =
     let room : c.word_count-count.result ≤ length c.args.out.now = omega (arith, word_count-le c.args.flags) in
-    let lent : length (take c.word_count-count.result c.args.out.now) ≡ word_count c.args.flags = length-take-le c.word_count-count.result c.args.out.now room ∙ c.word_count-count.ensures in
+    let lent : length (take c.word_count-count.result c.args.out.now) ≡ word_count c.args.flags =
+    length-take-le c.word_count-count.result c.args.out.now room ∙ c.word_count-count.ensures in
     omega (arith, lent)
 
 pub transform_words-requires : goal.transform_words-requires
 transform_words-requires c =
     let room : c.word_count-count.result ≤ length c.args.out.now = omega (arith, word_count-le c.args.flags) in
-    let lent : length (take c.word_count-count.result c.args.out.now) ≡ word_count c.args.flags = length-take-le c.word_count-count.result c.args.out.now room ∙ c.word_count-count.ensures in
+    let lent : length (take c.word_count-count.result c.args.out.now) ≡ word_count c.args.flags =
+    length-take-le c.word_count-count.result c.args.out.now room ∙ c.word_count-count.ensures in
     (search rules, c.copy.auto.words ∙ lent)
 
 pub returns : goal.returns
 returns c =
     let room : c.word_count-count.result ≤ length c.args.out.now = omega (arith, word_count-le c.args.flags) in
-    let lent : length (take c.word_count-count.result c.args.out.now) ≡ word_count c.args.flags = length-take-le c.word_count-count.result c.args.out.now room ∙ c.word_count-count.ensures in
-    let holds : (m : ℕ) → m < 2 ^ c.args.flags → packed c.transform_words.new.words m ≡ coefficient c.args.flags (packed c.args.coefficients.now) m = λ m h. let n = c.args.flags in
+    let lent : length (take c.word_count-count.result c.args.out.now) ≡ word_count c.args.flags =
+    length-take-le c.word_count-count.result c.args.out.now room ∙ c.word_count-count.ensures in
+    let holds : (m : ℕ) → m < 2 ^ c.args.flags → packed c.transform_words.new.words m ≡ coefficient c.args.flags (packed c.args.coefficients.now) m =
+    λ m h. let n = c.args.flags in
     let cs = c.args.coefficients.now in
     let p = c.copy in
     let e : p.new.words ≡ take (word_count n) cs = p.ensures ∙ ap (λ (k : ℕ). take k cs) lent in

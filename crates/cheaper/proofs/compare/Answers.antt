@@ -23,7 +23,8 @@ returns-in_default-other c =
 pub returns-then-is_better : goal.returns-then-is_better
 returns-then-is_better c =
     let one : costing c.args.flags c.args.first.now ≡ gives (costs_of c.in-Known.a) = sym c.compute_cost-one.ensures ∙ ap costing_of c.in-Known.is in
-    let two : (let a = c.args in costing a.flags a.second.now ≡ gives (costs_of c.in-Known-other.b)) = sym c.compute_cost-other.ensures ∙ ap costing_of c.in-Known-other.is in
+    let two : (let a = c.args in costing a.flags a.second.now ≡ gives (costs_of c.in-Known-other.b)) =
+    sym c.compute_cost-other.ensures ∙ ap costing_of c.in-Known-other.is in
     let a = c.args in
     let better = sym c.is_better.ensures ∙ c.if-is_better.true in
     sym (cheaper-better Neither First Second a.flags a.first.now a.second.now _ _ one two better)
@@ -31,7 +32,8 @@ returns-then-is_better c =
 pub returns : goal.returns
 returns c =
     let one : costing c.args.flags c.args.first.now ≡ gives (costs_of c.in-Known.a) = sym c.compute_cost-one.ensures ∙ ap costing_of c.in-Known.is in
-    let two : (let a = c.args in costing a.flags a.second.now ≡ gives (costs_of c.in-Known-other.b)) = sym c.compute_cost-other.ensures ∙ ap costing_of c.in-Known-other.is in
+    let two : (let a = c.args in costing a.flags a.second.now ≡ gives (costs_of c.in-Known-other.b)) =
+    sym c.compute_cost-other.ensures ∙ ap costing_of c.in-Known-other.is in
     let a = c.args in
     let worse = sym c.is_better.ensures ∙ c.if-is_better.false in
     sym (cheaper-else Neither First Second a.flags a.first.now a.second.now _ _ one two worse)

@@ -18,6 +18,7 @@ returns-then-table-setting_count c =
 pub returns : goal.returns
 returns c =
     let a = c.args in
-    let both = told-past a.flags a.table.now a.out.now (omega arith) (omega arith) _ c.of_entries.ensures c.compile_table.new.out c.compile_table.result
+    let both = told-past a.flags a.table.now a.out.now (omega arith)
+    (omega arith) _ c.of_entries.ensures c.compile_table.new.out c.compile_table.result
     (c.compile_table.ensures.answer, c.compile_table.ensures.lent) in
     record { answer = both.0; lent = both.1 }

@@ -15,7 +15,8 @@ bounds-bytes-i c = omega arith
 
 pub bounds-out-i : goal.bounds-out-i
 bounds-out-i c =
-    let kept : length c.loop-i.out ≡ length c.args.out.now = copied-length c.args.bytes.now c.args.out.now c.loop-i.out c.loop-i.i c.loop-i.invariant.1 in
+    let kept : length c.loop-i.out ≡ length c.args.out.now =
+    copied-length c.args.bytes.now c.args.out.now c.loop-i.out c.loop-i.i c.loop-i.invariant.1 in
     omega (arith, kept)
 
 pub overflow_step-i : goal.overflow_step-i

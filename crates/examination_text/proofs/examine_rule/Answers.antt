@@ -19,7 +19,8 @@ pub returns-then-first-length : goal.returns-then-first-length
 returns-then-first-length c =
     let input : List ℕ = c.args.input.now in
     let s = input in
-    let both = shows-told (shows-eq (sym (page-lines s c.if-length-gt-LONGEST.false ∙ lines-one c.until-first.ensures c.if-first-length.true)) c.not_lines.ensures) in
+    let both = shows-told
+    (shows-eq (sym (page-lines s c.if-length-gt-LONGEST.false ∙ lines-one c.until-first.ensures c.if-first-length.true)) c.not_lines.ensures) in
     record { count_le_page_bytes = both.0; bytes_len = both.1 }
 
 pub returns-then-second-length : goal.returns-then-second-length
@@ -41,6 +42,7 @@ pub returns : goal.returns
 returns c =
     let input : List ℕ = c.args.input.now in
     let both = shows-told
-    (shows-eq (sym (page-lines input c.if-length-gt-LONGEST.false ∙ lines_two c.until-first.ensures c.if-first-length.false c.until-second.ensures c.if-second-length.false))
+    (shows-eq (sym (page-lines input c.if-length-gt-LONGEST.false
+    ∙ lines_two c.until-first.ensures c.if-first-length.false c.until-second.ensures c.if-second-length.false))
     c.lines_page.ensures) in
     record { count_le_page_bytes = both.0; bytes_len = both.1 }

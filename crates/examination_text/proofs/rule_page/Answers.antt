@@ -47,23 +47,27 @@ slice_bounds-table-end c =
 pub slice_bounds-verdict_page-end : goal.slice_bounds-verdict_page-end
 slice_bounds-verdict_page-end c =
     let few : length c.args.digits.now ≤ 64 = omega (arith, flags-most c.args.flags c.requires.0, c.requires.1) in
-    let length_front : length (take (length c.args.digits.now) c.entries.new.table) ≡ length c.args.digits.now = length-take-le _ c.entries.new.table (omega (arith, few, c.entries.auto.table)) in
+    let length_front : length (take (length c.args.digits.now) c.entries.new.table) ≡ length c.args.digits.now =
+    length-take-le _ c.entries.new.table (omega (arith, few, c.entries.auto.table)) in
     sym length_front
 
 pub slice_bounds-verdict_page-end-2 : goal.slice_bounds-verdict_page-end-2
-slice_bounds-verdict_page-end-2 c = sym (length-take-le _ c.put_rule-end.new.out (omega (arith, c.put_rule-end.ensures.within, stored-length c.put_rule-end.ensures)))
+slice_bounds-verdict_page-end-2 c = sym
+    (length-take-le _ c.put_rule-end.new.out (omega (arith, c.put_rule-end.ensures.within, stored-length c.put_rule-end.ensures)))
 
 pub verdict_page-requires : goal.verdict_page-requires
 verdict_page-requires c =
     let few : length c.args.digits.now ≤ 64 = omega (arith, flags-most c.args.flags c.requires.0, c.requires.1) in
-    let length_front : length (take (length c.args.digits.now) c.entries.new.table) ≡ length c.args.digits.now = length-take-le _ c.entries.new.table (omega (arith, few, c.entries.auto.table)) in
+    let length_front : length (take (length c.args.digits.now) c.entries.new.table) ≡ length c.args.digits.now =
+    length-take-le _ c.entries.new.table (omega (arith, few, c.entries.auto.table)) in
     (c.requires.0, omega (arith, length_front, c.requires.1))
 
 pub returns : goal.returns
 returns c =
     let few : length c.args.digits.now ≤ 64 = omega (arith, flags-most c.args.flags c.requires.0, c.requires.1) in
     let good : all is_record (record_texts c.args.line.now) ≡ true = sym c.is_rule.ensures ∙ c.if-not-is_rule.false in
-    let front : take (length c.args.digits.now) c.entries.new.table ≡ values c.args.digits.now = entries-front c.args.digits.now (replicate 64 0) _ few c.entries.ensures in
+    let front : take (length c.args.digits.now) c.entries.new.table ≡ values c.args.digits.now =
+    entries-front c.args.digits.now (replicate 64 0) _ few c.entries.ensures in
     let ts = record_texts c.args.line.now in
     shows-eq
     (ap₂ (λ (table e : List ℕ). verdict_text c.args.flags table ts (examine c.args.flags table e) ++ ascii "\n")

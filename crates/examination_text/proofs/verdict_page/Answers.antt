@@ -40,7 +40,8 @@ pub returns : goal.returns
 unfolding ascii
 returns c =
     let said : List ℕ = take c.put_verdict-end.result c.put_verdict-end.new.out in
-    let spoken : (let a = c.args in said ≡ verdict_text a.flags a.table.now (record_texts a.line.now) (examine a.flags a.table.now a.expression.now)) = let a = c.args in
+    let spoken : (let a = c.args in said ≡ verdict_text a.flags a.table.now (record_texts a.line.now)
+    (examine a.flags a.table.now a.expression.now)) = let a = c.args in
     stored-front c.put_verdict-end.ensures
     ∙ ap (λ (o : Outcome ℕ). verdict_text a.flags a.table.now (record_texts a.line.now) o) c.examine-answer.ensures in
     shows-put refl (stored-append (stored-eq spoken c.put_text-newline.ensures) c.put_text-count.ensures)

@@ -15,7 +15,9 @@ use Rattle.examiner.proofs.examine_for_reader.Goals as goal
 
 pub returns-in-Values : goal.returns-in-Values
 returns-in-Values c =
-    let examined : (w : Walked) → c.walk_for_reader.result ≡ w → (let a = c.args in examine a.flags (word_table a.flags a.word) a.bytes.now ≡ (walked_of w then (λ v. judgment a.flags (bit a.word) v))) = λ w e. examine-word-walked c.args.flags c.requires c.flag_words-words.result c.flag_words-words.ensures c.args.word c.args.bytes.now w
+    let examined : (w : Walked) → c.walk_for_reader.result ≡ w →
+    (let a = c.args in examine a.flags (word_table a.flags a.word) a.bytes.now ≡ (walked_of w then (λ v. judgment a.flags (bit a.word) v))) =
+    λ w e. examine-word-walked c.args.flags c.requires c.flag_words-words.result c.flag_words-words.ensures c.args.word c.args.bytes.now w
     (sym (ap walked_of e) ∙ c.walk_for_reader.ensures) in
     let a = c.args in
     c.judge.ensures ∙ ap (λ (t : Table). judgment a.flags (truth t) c.in-Values.seen) c.of_word.ensures
@@ -23,6 +25,8 @@ returns-in-Values c =
 
 pub returns-in-Refused : goal.returns-in-Refused
 returns-in-Refused c =
-    let examined : (w : Walked) → c.walk_for_reader.result ≡ w → (let a = c.args in examine a.flags (word_table a.flags a.word) a.bytes.now ≡ (walked_of w then (λ v. judgment a.flags (bit a.word) v))) = λ w e. examine-word-walked c.args.flags c.requires c.flag_words-words.result c.flag_words-words.ensures c.args.word c.args.bytes.now w
+    let examined : (w : Walked) → c.walk_for_reader.result ≡ w →
+    (let a = c.args in examine a.flags (word_table a.flags a.word) a.bytes.now ≡ (walked_of w then (λ v. judgment a.flags (bit a.word) v))) =
+    λ w e. examine-word-walked c.args.flags c.requires c.flag_words-words.result c.flag_words-words.ensures c.args.word c.args.bytes.now w
     (sym (ap walked_of e) ∙ c.walk_for_reader.ensures) in
     sym (examined _ c.in-Refused.is)

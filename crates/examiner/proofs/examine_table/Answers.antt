@@ -13,14 +13,18 @@ use Rattle.examiner.proofs.examine_table.Goals as goal
 
 pub returns-in-Values : goal.returns-in-Values
 returns-in-Values c =
-    let examined : (w : Walked) → c.walk.result ≡ w → (let a = c.args in examine_truth a.flags (truth a.table) a.bytes.now ≡ (walked_of w then (λ v. judgment a.flags (truth a.table) v))) = λ w e. let f = truth c.args.table in
+    let examined : (w : Walked) → c.walk.result ≡ w →
+    (let a = c.args in examine_truth a.flags (truth a.table) a.bytes.now ≡ (walked_of w then (λ v. judgment a.flags (truth a.table) v))) =
+    λ w e. let f = truth c.args.table in
     examine-walked c.args.flags c.requires c.flag_words-words.result c.flag_words-words.ensures f c.args.bytes.now
     ∙ ap (λ (o : Outcome Seen). o then (λ v. judgment c.args.flags f v)) (sym c.walk.ensures ∙ ap walked_of e) in
     c.judge.ensures ∙ sym (examined _ c.in-Values.is)
 
 pub returns-in-Refused : goal.returns-in-Refused
 returns-in-Refused c =
-    let examined : (w : Walked) → c.walk.result ≡ w → (let a = c.args in examine_truth a.flags (truth a.table) a.bytes.now ≡ (walked_of w then (λ v. judgment a.flags (truth a.table) v))) = λ w e. let f = truth c.args.table in
+    let examined : (w : Walked) → c.walk.result ≡ w →
+    (let a = c.args in examine_truth a.flags (truth a.table) a.bytes.now ≡ (walked_of w then (λ v. judgment a.flags (truth a.table) v))) =
+    λ w e. let f = truth c.args.table in
     examine-walked c.args.flags c.requires c.flag_words-words.result c.flag_words-words.ensures f c.args.bytes.now
     ∙ ap (λ (o : Outcome Seen). o then (λ v. judgment c.args.flags f v)) (sym c.walk.ensures ∙ ap walked_of e) in
     sym (examined _ c.in-Refused.is)

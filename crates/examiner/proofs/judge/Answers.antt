@@ -15,7 +15,9 @@ use Rattle.examiner.proofs.judge.Goals as goal
 pub returns-in-At : goal.returns-in-At
 unfolding verdict judgment
 returns-in-At c =
-    let judged : (d : Difference) → c.difference.result ≡ d → (let a = c.args in judgment a.flags (truth a.table) a.seen ≡ verdict (raw_cost (form a.flags (coefficient a.flags (truth a.table)))) a.seen.cost (difference_of d)) = λ d e. let a = c.args in
+    let judged : (d : Difference) → c.difference.result ≡ d →
+    (let a = c.args in judgment a.flags (truth a.table) a.seen ≡ verdict
+    (raw_cost (form a.flags (coefficient a.flags (truth a.table)))) a.seen.cost (difference_of d)) = λ d e. let a = c.args in
     ap (verdict (raw_cost (form a.flags (coefficient a.flags (truth a.table)))) a.seen.cost)
     (sym c.difference.ensures ∙ ap difference_of e) in
     ap examination_of c.refused.ensures ∙ sym (judged _ c.in-At.is)
@@ -23,7 +25,9 @@ returns-in-At c =
 pub returns-in-None : goal.returns-in-None
 unfolding judgment
 returns-in-None c =
-    let judged : (d : Difference) → c.difference.result ≡ d → (let a = c.args in judgment a.flags (truth a.table) a.seen ≡ verdict (raw_cost (form a.flags (coefficient a.flags (truth a.table)))) a.seen.cost (difference_of d)) = λ d e. let a = c.args in
+    let judged : (d : Difference) → c.difference.result ≡ d →
+    (let a = c.args in judgment a.flags (truth a.table) a.seen ≡ verdict
+    (raw_cost (form a.flags (coefficient a.flags (truth a.table)))) a.seen.cost (difference_of d)) = λ d e. let a = c.args in
     ap (verdict (raw_cost (form a.flags (coefficient a.flags (truth a.table)))) a.seen.cost)
     (sym c.difference.ensures ∙ ap difference_of e) in
     c.judge_cost.ensures

@@ -16,7 +16,9 @@ returns-then-left-lt2 c =
 
 pub returns-in-17231 : goal.returns-in-17231
 returns-in-17231 c =
-    let by-mark : (m : ℕ) → c.letters-mark.result ≡ m → (let a = c.args in record_over a.flags a.bytes.now a.depth a.place ≡ by_mark a.flags a.bytes.now a.place m then over a.depth a.place) = λ m e. let a = c.args in
+    let by-mark : (m : ℕ) → c.letters-mark.result ≡ m →
+    (let a = c.args in record_over a.flags a.bytes.now a.depth a.place ≡ by_mark a.flags a.bytes.now a.place m then over a.depth a.place) =
+    λ m e. let a = c.args in
     over-mark a.flags a.bytes.now a.place a.depth m (omega arith) (sym c.letters-mark.ensures ∙ e) in
     let a = c.args in
     c.constant.ensures
@@ -24,7 +26,9 @@ returns-in-17231 c =
 
 pub returns-in-22081 : goal.returns-in-22081
 returns-in-22081 c =
-    let by-mark : (m : ℕ) → c.letters-mark.result ≡ m → (let a = c.args in record_over a.flags a.bytes.now a.depth a.place ≡ by_mark a.flags a.bytes.now a.place m then over a.depth a.place) = λ m e. let a = c.args in
+    let by-mark : (m : ℕ) → c.letters-mark.result ≡ m →
+    (let a = c.args in record_over a.flags a.bytes.now a.depth a.place ≡ by_mark a.flags a.bytes.now a.place m then over a.depth a.place) =
+    λ m e. let a = c.args in
     over-mark a.flags a.bytes.now a.place a.depth m (omega arith) (sym c.letters-mark.ensures ∙ e) in
     let a = c.args in
     c.variable.ensures
@@ -33,34 +37,44 @@ returns-in-22081 c =
 pub returns-in-16718 : goal.returns-in-16718
 unfolding by_mark plain
 returns-in-16718 c =
-    let by-mark : (m : ℕ) → c.letters-mark.result ≡ m → (let a = c.args in record_over a.flags a.bytes.now a.depth a.place ≡ by_mark a.flags a.bytes.now a.place m then over a.depth a.place) = λ m e. let a = c.args in
+    let by-mark : (m : ℕ) → c.letters-mark.result ≡ m →
+    (let a = c.args in record_over a.flags a.bytes.now a.depth a.place ≡ by_mark a.flags a.bytes.now a.place m then over a.depth a.place) =
+    λ m e. let a = c.args in
     over-mark a.flags a.bytes.now a.place a.depth m (omega arith) (sym c.letters-mark.ensures ∙ e) in
     c.operator.ensures ∙ sym (by-mark 0x414e c.in-16718.is)
 
 pub returns-in-20306 : goal.returns-in-20306
 unfolding by_mark plain
 returns-in-20306 c =
-    let by-mark : (m : ℕ) → c.letters-mark.result ≡ m → (let a = c.args in record_over a.flags a.bytes.now a.depth a.place ≡ by_mark a.flags a.bytes.now a.place m then over a.depth a.place) = λ m e. let a = c.args in
+    let by-mark : (m : ℕ) → c.letters-mark.result ≡ m →
+    (let a = c.args in record_over a.flags a.bytes.now a.depth a.place ≡ by_mark a.flags a.bytes.now a.place m then over a.depth a.place) =
+    λ m e. let a = c.args in
     over-mark a.flags a.bytes.now a.place a.depth m (omega arith) (sym c.letters-mark.ensures ∙ e) in
     c.operator-in-20306.ensures ∙ sym (by-mark 0x4f52 c.in-20306.is)
 
 pub returns-in-22607 : goal.returns-in-22607
 unfolding by_mark plain
 returns-in-22607 c =
-    let by-mark : (m : ℕ) → c.letters-mark.result ≡ m → (let a = c.args in record_over a.flags a.bytes.now a.depth a.place ≡ by_mark a.flags a.bytes.now a.place m then over a.depth a.place) = λ m e. let a = c.args in
+    let by-mark : (m : ℕ) → c.letters-mark.result ≡ m →
+    (let a = c.args in record_over a.flags a.bytes.now a.depth a.place ≡ by_mark a.flags a.bytes.now a.place m then over a.depth a.place) =
+    λ m e. let a = c.args in
     over-mark a.flags a.bytes.now a.place a.depth m (omega arith) (sym c.letters-mark.ensures ∙ e) in
     c.operator-in-22607.ensures ∙ sym (by-mark 0x584f c.in-22607.is)
 
 pub returns-in-20047 : goal.returns-in-20047
 unfolding by_mark plain
 returns-in-20047 c =
-    let by-mark : (m : ℕ) → c.letters-mark.result ≡ m → (let a = c.args in record_over a.flags a.bytes.now a.depth a.place ≡ by_mark a.flags a.bytes.now a.place m then over a.depth a.place) = λ m e. let a = c.args in
+    let by-mark : (m : ℕ) → c.letters-mark.result ≡ m →
+    (let a = c.args in record_over a.flags a.bytes.now a.depth a.place ≡ by_mark a.flags a.bytes.now a.place m then over a.depth a.place) =
+    λ m e. let a = c.args in
     over-mark a.flags a.bytes.now a.place a.depth m (omega arith) (sym c.letters-mark.ensures ∙ e) in
     c.operator-in-20047.ensures ∙ sym (by-mark 0x4e4f c.in-20047.is)
 
 pub returns-in_default : goal.returns-in_default
 returns-in_default c =
-    let by-mark : (m : ℕ) → c.letters-mark.result ≡ m → (let a = c.args in record_over a.flags a.bytes.now a.depth a.place ≡ by_mark a.flags a.bytes.now a.place m then over a.depth a.place) = λ m e. let a = c.args in
+    let by-mark : (m : ℕ) → c.letters-mark.result ≡ m →
+    (let a = c.args in record_over a.flags a.bytes.now a.depth a.place ≡ by_mark a.flags a.bytes.now a.place m then over a.depth a.place) =
+    λ m e. let a = c.args in
     over-mark a.flags a.bytes.now a.place a.depth m (omega arith) (sym c.letters-mark.ensures ∙ e) in
     let a = c.args in
     let m = c.letters-mark.result in

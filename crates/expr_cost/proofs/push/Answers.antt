@@ -8,25 +8,29 @@ use Rattle.expr_cost.proofs.push.Goals as goal
 
 pub binary-requires : goal.binary-requires
 binary-requires c =
-    let ready : (k : Kind) → c.args.kind ≡ k → (let a = c.args in Ready (operand_count (kind_of k)) a.stack.now a.ors.now a.depth a.saved) = λ k e. let a = c.args in
+    let ready : (k : Kind) → c.args.kind ≡ k → (let a = c.args in Ready (operand_count (kind_of k)) a.stack.now a.ors.now a.depth a.saved) =
+    λ k e. let a = c.args in
     subst (λ (x : Kind). Ready (operand_count (kind_of x)) a.stack.now a.ors.now a.depth a.saved) e c.requires in
     ready _ c.in-And.is
 
 pub binary-requires-in-Or : goal.binary-requires-in-Or
 binary-requires-in-Or c =
-    let ready : (k : Kind) → c.args.kind ≡ k → (let a = c.args in Ready (operand_count (kind_of k)) a.stack.now a.ors.now a.depth a.saved) = λ k e. let a = c.args in
+    let ready : (k : Kind) → c.args.kind ≡ k → (let a = c.args in Ready (operand_count (kind_of k)) a.stack.now a.ors.now a.depth a.saved) =
+    λ k e. let a = c.args in
     subst (λ (x : Kind). Ready (operand_count (kind_of x)) a.stack.now a.ors.now a.depth a.saved) e c.requires in
     ready _ c.in-Or.is
 
 pub binary-requires-in-Xor : goal.binary-requires-in-Xor
 binary-requires-in-Xor c =
-    let ready : (k : Kind) → c.args.kind ≡ k → (let a = c.args in Ready (operand_count (kind_of k)) a.stack.now a.ors.now a.depth a.saved) = λ k e. let a = c.args in
+    let ready : (k : Kind) → c.args.kind ≡ k → (let a = c.args in Ready (operand_count (kind_of k)) a.stack.now a.ors.now a.depth a.saved) =
+    λ k e. let a = c.args in
     subst (λ (x : Kind). Ready (operand_count (kind_of x)) a.stack.now a.ors.now a.depth a.saved) e c.requires in
     ready _ c.in-Xor.is
 
 pub unary-requires : goal.unary-requires
 unary-requires c =
-    let ready : (k : Kind) → c.args.kind ≡ k → (let a = c.args in Ready (operand_count (kind_of k)) a.stack.now a.ors.now a.depth a.saved) = λ k e. let a = c.args in
+    let ready : (k : Kind) → c.args.kind ≡ k → (let a = c.args in Ready (operand_count (kind_of k)) a.stack.now a.ors.now a.depth a.saved) =
+    λ k e. let a = c.args in
     subst (λ (x : Kind). Ready (operand_count (kind_of x)) a.stack.now a.ors.now a.depth a.saved) e c.requires in
     ready _ c.in-Not.is
 

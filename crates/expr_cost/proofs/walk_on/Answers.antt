@@ -24,7 +24,9 @@ finished-requires c = costed-less c.loop-node.invariant
 
 pub returns-in_default-answer : goal.returns-in_default-answer
 returns-in_default-answer c =
-    let past = answer-end c.loop-node.invariant.walk c.requires.0 c.step-answer.result c.in_default.not-Found c.in_default-answer.not-Refused c.step-answer.ensures in
+    let past =
+    answer-end c.loop-node.invariant.walk c.requires.0 c.step-answer.result c.in_default.not-Found c.in_default-answer.not-Refused
+    c.step-answer.ensures in
     costing-end c.loop-node.invariant c.requires.0 past c.finished.ensures
 
 pub returns-in_default : goal.returns-in_default
@@ -34,7 +36,8 @@ returns-in_default c =
 
 pub push-pushed-requires : goal.push-pushed-requires
 push-pushed-requires c =
-    let found : (let a = c.args in let node = c.in-Found.node in Stepped a.flags a.bytes.now c.loop-node.depth c.loop-node.place c.loop-node.count (record { kind = kind_of node.kind; next = node.next })) = answer-found c.loop-node.invariant.walk c.requires.0 c.in-Found.is c.step-answer.ensures in
+    let found : (let a = c.args in let node = c.in-Found.node in Stepped a.flags a.bytes.now c.loop-node.depth c.loop-node.place c.loop-node.count
+    (record { kind = kind_of node.kind; next = node.next })) = answer-found c.loop-node.invariant.walk c.requires.0 c.in-Found.is c.step-answer.ensures in
     let w = c.loop-node.invariant in (
       w.space ∙ sym w.room,
       omega arith,
@@ -45,36 +48,42 @@ push-pushed-requires c =
 
 pub returns-in_default-pushed : goal.returns-in_default-pushed
 returns-in_default-pushed c =
-    let found : (let a = c.args in let node = c.in-Found.node in Stepped a.flags a.bytes.now c.loop-node.depth c.loop-node.place c.loop-node.count (record { kind = kind_of node.kind; next = node.next })) = answer-found c.loop-node.invariant.walk c.requires.0 c.in-Found.is c.step-answer.ensures in
+    let found : (let a = c.args in let node = c.in-Found.node in Stepped a.flags a.bytes.now c.loop-node.depth c.loop-node.place c.loop-node.count
+    (record { kind = kind_of node.kind; next = node.next })) = answer-found c.loop-node.invariant.walk c.requires.0 c.in-Found.is c.step-answer.ensures in
     depth-full c.loop-node.invariant found _ _ c.push-pushed.ensures c.in_default-pushed.is
 
 pub keep-requires : goal.keep-requires
 keep-requires c =
-    let found : (let a = c.args in let node = c.in-Found.node in Stepped a.flags a.bytes.now c.loop-node.depth c.loop-node.place c.loop-node.count (record { kind = kind_of node.kind; next = node.next })) = answer-found c.loop-node.invariant.walk c.requires.0 c.in-Found.is c.step-answer.ensures in
+    let found : (let a = c.args in let node = c.in-Found.node in Stepped a.flags a.bytes.now c.loop-node.depth c.loop-node.place c.loop-node.count
+    (record { kind = kind_of node.kind; next = node.next })) = answer-found c.loop-node.invariant.walk c.requires.0 c.in-Found.is c.step-answer.ensures in
     let w = c.loop-node.invariant in
     (omega (arith, depth_below w found _ _ c.push-pushed.ensures c.in-At.is), walk-fits w.walk)
 
 pub loop-node-preserved : goal.loop-node-preserved
 loop-node-preserved c =
-    let found : (let a = c.args in let node = c.in-Found.node in Stepped a.flags a.bytes.now c.loop-node.depth c.loop-node.place c.loop-node.count (record { kind = kind_of node.kind; next = node.next })) = answer-found c.loop-node.invariant.walk c.requires.0 c.in-Found.is c.step-answer.ensures in
+    let found : (let a = c.args in let node = c.in-Found.node in Stepped a.flags a.bytes.now c.loop-node.depth c.loop-node.place c.loop-node.count
+    (record { kind = kind_of node.kind; next = node.next })) = answer-found c.loop-node.invariant.walk c.requires.0 c.in-Found.is c.step-answer.ensures in
     rw c.keep.ensures
     (depth-step c.loop-node.invariant found _ _ c.push-pushed.ensures c.in-At.is)
 
 -- no more operands than records, of which there are not too many
 pub overflow_add-depth : goal.overflow_add-depth
 overflow_add-depth c =
-    let found : (let a = c.args in let node = c.in-Found.node in Stepped a.flags a.bytes.now c.loop-node.depth c.loop-node.place c.loop-node.count (record { kind = kind_of node.kind; next = node.next })) = answer-found c.loop-node.invariant.walk c.requires.0 c.in-Found.is c.step-answer.ensures in
+    let found : (let a = c.args in let node = c.in-Found.node in Stepped a.flags a.bytes.now c.loop-node.depth c.loop-node.place c.loop-node.count
+    (record { kind = kind_of node.kind; next = node.next })) = answer-found c.loop-node.invariant.walk c.requires.0 c.in-Found.is c.step-answer.ensures in
     let next = depth-step c.loop-node.invariant found _ _ c.push-pushed.ensures c.in-At.is in
     omega (arith, next.walk.high, next.walk.few)
 
 pub overflow_add-count : goal.overflow_add-count
 overflow_add-count c =
-    let found : (let a = c.args in let node = c.in-Found.node in Stepped a.flags a.bytes.now c.loop-node.depth c.loop-node.place c.loop-node.count (record { kind = kind_of node.kind; next = node.next })) = answer-found c.loop-node.invariant.walk c.requires.0 c.in-Found.is c.step-answer.ensures in
+    let found : (let a = c.args in let node = c.in-Found.node in Stepped a.flags a.bytes.now c.loop-node.depth c.loop-node.place c.loop-node.count
+    (record { kind = kind_of node.kind; next = node.next })) = answer-found c.loop-node.invariant.walk c.requires.0 c.in-Found.is c.step-answer.ensures in
     let next = depth-step c.loop-node.invariant found _ _ c.push-pushed.ensures c.in-At.is in
     omega (arith, next.walk.few)
 
 pub loop-node-smaller : goal.loop-node-smaller
 loop-node-smaller c =
-    let found : (let a = c.args in let node = c.in-Found.node in Stepped a.flags a.bytes.now c.loop-node.depth c.loop-node.place c.loop-node.count (record { kind = kind_of node.kind; next = node.next })) = answer-found c.loop-node.invariant.walk c.requires.0 c.in-Found.is c.step-answer.ensures in
+    let found : (let a = c.args in let node = c.in-Found.node in Stepped a.flags a.bytes.now c.loop-node.depth c.loop-node.place c.loop-node.count
+    (record { kind = kind_of node.kind; next = node.next })) = answer-found c.loop-node.invariant.walk c.requires.0 c.in-Found.is c.step-answer.ensures in
     let next = depth-step c.loop-node.invariant found _ _ c.push-pushed.ensures c.in-At.is in
     omega (arith, next.walk.few)

@@ -15,37 +15,44 @@ bounds-words-i c = omega (arith, rw c.in-Variable.is at c.requires.0)
 
 pub entry-requires : goal.entry-requires
 entry-requires c =
-    let enough : (k : Kind) → c.args.kind ≡ k → operand_count (kind_of k) ≤ c.args.depth = λ k e. subst (λ (x : Kind). operand_count (kind_of x) ≤ c.args.depth) e c.requires.1 in
+    let enough : (k : Kind) → c.args.kind ≡ k → operand_count (kind_of k) ≤ c.args.depth =
+    λ k e. subst (λ (x : Kind). operand_count (kind_of x) ≤ c.args.depth) e c.requires.1 in
     omega (arith, enough _ c.in-And.is, c.requires.2)
 
 pub entry-requires-in-And : goal.entry-requires-in-And
 entry-requires-in-And c =
-    let enough : (k : Kind) → c.args.kind ≡ k → operand_count (kind_of k) ≤ c.args.depth = λ k e. subst (λ (x : Kind). operand_count (kind_of x) ≤ c.args.depth) e c.requires.1 in
+    let enough : (k : Kind) → c.args.kind ≡ k → operand_count (kind_of k) ≤ c.args.depth =
+    λ k e. subst (λ (x : Kind). operand_count (kind_of x) ≤ c.args.depth) e c.requires.1 in
     omega (arith, enough _ c.in-And.is, c.requires.2)
 
 pub entry-requires-in-Or : goal.entry-requires-in-Or
 entry-requires-in-Or c =
-    let enough : (k : Kind) → c.args.kind ≡ k → operand_count (kind_of k) ≤ c.args.depth = λ k e. subst (λ (x : Kind). operand_count (kind_of x) ≤ c.args.depth) e c.requires.1 in
+    let enough : (k : Kind) → c.args.kind ≡ k → operand_count (kind_of k) ≤ c.args.depth =
+    λ k e. subst (λ (x : Kind). operand_count (kind_of x) ≤ c.args.depth) e c.requires.1 in
     omega (arith, enough _ c.in-Or.is, c.requires.2)
 
 pub entry-requires-in-Or-2 : goal.entry-requires-in-Or-2
 entry-requires-in-Or-2 c =
-    let enough : (k : Kind) → c.args.kind ≡ k → operand_count (kind_of k) ≤ c.args.depth = λ k e. subst (λ (x : Kind). operand_count (kind_of x) ≤ c.args.depth) e c.requires.1 in
+    let enough : (k : Kind) → c.args.kind ≡ k → operand_count (kind_of k) ≤ c.args.depth =
+    λ k e. subst (λ (x : Kind). operand_count (kind_of x) ≤ c.args.depth) e c.requires.1 in
     omega (arith, enough _ c.in-Or.is, c.requires.2)
 
 pub entry-requires-in-Xor : goal.entry-requires-in-Xor
 entry-requires-in-Xor c =
-    let enough : (k : Kind) → c.args.kind ≡ k → operand_count (kind_of k) ≤ c.args.depth = λ k e. subst (λ (x : Kind). operand_count (kind_of x) ≤ c.args.depth) e c.requires.1 in
+    let enough : (k : Kind) → c.args.kind ≡ k → operand_count (kind_of k) ≤ c.args.depth =
+    λ k e. subst (λ (x : Kind). operand_count (kind_of x) ≤ c.args.depth) e c.requires.1 in
     omega (arith, enough _ c.in-Xor.is, c.requires.2)
 
 pub entry-requires-in-Xor-2 : goal.entry-requires-in-Xor-2
 entry-requires-in-Xor-2 c =
-    let enough : (k : Kind) → c.args.kind ≡ k → operand_count (kind_of k) ≤ c.args.depth = λ k e. subst (λ (x : Kind). operand_count (kind_of x) ≤ c.args.depth) e c.requires.1 in
+    let enough : (k : Kind) → c.args.kind ≡ k → operand_count (kind_of k) ≤ c.args.depth =
+    λ k e. subst (λ (x : Kind). operand_count (kind_of x) ≤ c.args.depth) e c.requires.1 in
     omega (arith, enough _ c.in-Xor.is, c.requires.2)
 
 pub entry-requires-in-Not : goal.entry-requires-in-Not
 entry-requires-in-Not c =
-    let enough : (k : Kind) → c.args.kind ≡ k → operand_count (kind_of k) ≤ c.args.depth = λ k e. subst (λ (x : Kind). operand_count (kind_of x) ≤ c.args.depth) e c.requires.1 in
+    let enough : (k : Kind) → c.args.kind ≡ k → operand_count (kind_of k) ≤ c.args.depth =
+    λ k e. subst (λ (x : Kind). operand_count (kind_of x) ≤ c.args.depth) e c.requires.1 in
     omega (arith, enough _ c.in-Not.is, c.requires.2)
 
 pub returns-in-Constant : goal.returns-in-Constant
@@ -56,8 +63,10 @@ returns-in-Variable c = rw c.in-Variable.is
 
 pub returns-in-And : goal.returns-in-And
 returns-in-And c =
-    let enough : (k : Kind) → c.args.kind ≡ k → operand_count (kind_of k) ≤ c.args.depth = λ k e. subst (λ (x : Kind). operand_count (kind_of x) ≤ c.args.depth) e c.requires.1 in
-    let second : (y : ℕ) → 2 ≤ c.args.depth → (let a = c.args in y ≡ get_or a.stack.now (a.depth - 1) 0 → y ≡ get_or a.stack.now (a.depth - 2 + 1) 0) = λ y h e. let a = c.args in
+    let enough : (k : Kind) → c.args.kind ≡ k → operand_count (kind_of k) ≤ c.args.depth =
+    λ k e. subst (λ (x : Kind). operand_count (kind_of x) ≤ c.args.depth) e c.requires.1 in
+    let second : (y : ℕ) → 2 ≤ c.args.depth →
+    (let a = c.args in y ≡ get_or a.stack.now (a.depth - 1) 0 → y ≡ get_or a.stack.now (a.depth - 2 + 1) 0) = λ y h e. let a = c.args in
     let same : a.depth - 1 ≡ a.depth - 2 + 1 = omega arith in
     e ∙ ap (λ (i : ℕ). get_or a.stack.now i 0) same in
     rw c.in-And.is
@@ -65,8 +74,10 @@ returns-in-And c =
 
 pub returns-in-Or : goal.returns-in-Or
 returns-in-Or c =
-    let enough : (k : Kind) → c.args.kind ≡ k → operand_count (kind_of k) ≤ c.args.depth = λ k e. subst (λ (x : Kind). operand_count (kind_of x) ≤ c.args.depth) e c.requires.1 in
-    let second : (y : ℕ) → 2 ≤ c.args.depth → (let a = c.args in y ≡ get_or a.stack.now (a.depth - 1) 0 → y ≡ get_or a.stack.now (a.depth - 2 + 1) 0) = λ y h e. let a = c.args in
+    let enough : (k : Kind) → c.args.kind ≡ k → operand_count (kind_of k) ≤ c.args.depth =
+    λ k e. subst (λ (x : Kind). operand_count (kind_of x) ≤ c.args.depth) e c.requires.1 in
+    let second : (y : ℕ) → 2 ≤ c.args.depth →
+    (let a = c.args in y ≡ get_or a.stack.now (a.depth - 1) 0 → y ≡ get_or a.stack.now (a.depth - 2 + 1) 0) = λ y h e. let a = c.args in
     let same : a.depth - 1 ≡ a.depth - 2 + 1 = omega arith in
     e ∙ ap (λ (i : ℕ). get_or a.stack.now i 0) same in
     rw c.in-Or.is
@@ -74,8 +85,10 @@ returns-in-Or c =
 
 pub returns-in-Xor : goal.returns-in-Xor
 returns-in-Xor c =
-    let enough : (k : Kind) → c.args.kind ≡ k → operand_count (kind_of k) ≤ c.args.depth = λ k e. subst (λ (x : Kind). operand_count (kind_of x) ≤ c.args.depth) e c.requires.1 in
-    let second : (y : ℕ) → 2 ≤ c.args.depth → (let a = c.args in y ≡ get_or a.stack.now (a.depth - 1) 0 → y ≡ get_or a.stack.now (a.depth - 2 + 1) 0) = λ y h e. let a = c.args in
+    let enough : (k : Kind) → c.args.kind ≡ k → operand_count (kind_of k) ≤ c.args.depth =
+    λ k e. subst (λ (x : Kind). operand_count (kind_of x) ≤ c.args.depth) e c.requires.1 in
+    let second : (y : ℕ) → 2 ≤ c.args.depth →
+    (let a = c.args in y ≡ get_or a.stack.now (a.depth - 1) 0 → y ≡ get_or a.stack.now (a.depth - 2 + 1) 0) = λ y h e. let a = c.args in
     let same : a.depth - 1 ≡ a.depth - 2 + 1 = omega arith in
     e ∙ ap (λ (i : ℕ). get_or a.stack.now i 0) same in
     rw c.in-Xor.is

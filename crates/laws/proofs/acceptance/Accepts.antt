@@ -140,6 +140,7 @@ module _ (n : ℕ) (table s : List ℕ) where
     differs-examine d = examined f h t e ∙ rw (first-differences n table t at d).1
 
   pub costly-examine : n ≤ rule_flags → complete n table ≡ true → (t : Tree) → made n s ≡ gives t
-      → ((at : ℕ) → at < 2 ^ n → value t at ≡ entry table at) → raw_cost (table_form n table) < cost t → examine n table s ≡ refuses too_costly (cost t)
+      → ((at : ℕ) → at < 2 ^ n → value t at ≡ entry table at) → raw_cost (table_form n table) < cost t → examine n table s ≡ refuses too_costly
+      (cost t)
   unfolding judged
   costly-examine f h t e a c = examined f h t e ∙ rw (none-differences n table t a, lt-ltb (raw_cost (table_form n table)) (cost t) c)

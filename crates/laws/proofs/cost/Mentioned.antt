@@ -137,7 +137,8 @@ unfolding mentioned atop
 mentioned-atop true t = refl
 mentioned-atop false t = refl
 
-mentioned-rest : (g : List ℕ → Tree) (t : Tree) (k : List ℕ) → mentioned (g k) ≡ union k → mentioned (with_rest g t k) ≡ bit_or (mentioned t) (union k)
+mentioned-rest : (g : List ℕ → Tree) (t : Tree) (k : List ℕ) → mentioned (g k) ≡ union k → mentioned (with_rest g t k) ≡ bit_or (mentioned t)
+    (union k)
 unfolding mentioned with_rest sum
 mentioned-rest g t [] h = sym (or_zero_r (mentioned t))
 mentioned-rest g t (m ∷ k) h = ap (bit_or (mentioned t)) h
@@ -169,7 +170,8 @@ module _ (g : List ℕ → Tree) (l : List ℕ) (a : Ascending l)
       let q : 0 < length (covered c l) = omega (arith, u.many) in
       let rest = keep (λ m. not (within c m)) l in
       mentioned-rest g (AN (cube c) (g (stripped c l))) rest (h rest (literals-uncovered c l p q) (ascending-keep (λ m. not (within c m)) l a))
-      ∙ ap (λ (x : ℕ). bit_or x (union rest)) (ap₂ bit_or (mentioned-cube c) (h (stripped c l) (literals-stripped c l p q) (ascending-stripped c l a)))
+      ∙ ap (λ (x : ℕ). bit_or x (union rest))
+      (ap₂ bit_or (mentioned-cube c) (h (stripped c l) (literals-stripped c l p q) (ascending-stripped c l a)))
       ∙ sym (union-covered c l p q)
 
   names-absorbed : (m o : ℕ) → monomials l ≡ m ∷ o ∷ [] → within m o ≡ true

@@ -147,7 +147,8 @@ back-polynomial n ws room t e s h =
     ∙ ap digit (sym (polynomial-coefficient n (packed ws) s))
 
 pub transform-back : (n : ℕ) (ws : List ℕ) (room : ℕ) (t : List ℕ) → way_back n ws room ≡ gives t
-    → ((i : ℕ) → i < word_count n → get_or ws i 0 < 2 ^ 64) → (room' : ℕ) → word_count n ≤ room' → transform n t room' ≡ gives (take (word_count n) ws)
+    → ((i : ℕ) → i < word_count n → get_or ws i 0 < 2 ^ 64) → (room' : ℕ) → word_count n ≤ room' → transform n t room' ≡ gives
+    (take (word_count n) ws)
 transform-back n ws room t e small room' h =
     let r = way_back-gives n ws room t e in
     transform-is n t room' (take (word_count n) ws) record {

@@ -21,7 +21,20 @@ use Rattle.bits.specs.Sum.{union}
 use Rattle.bits.proofs.Truth.{and-true-l, and_true_r}
 use Rattle.bits.proofs.Fixed.{below_less, fixed-step}
 use Rattle.bits.proofs.Range.{mem-keep, mem-from}
-use Rattle.rules.specs.Cleanup.{atop, singles, is_family, is_partial, best_family, partial_at, partial_or, meets, covered, stripped, is_cube, cube_saving}
+use Rattle.rules.specs.Cleanup.{
+  atop,
+  singles,
+  is_family,
+  is_partial,
+  best_family,
+  partial_at,
+  partial_or,
+  meets,
+  covered,
+  stripped,
+  is_cube,
+  cube_saving,
+}
 use Rattle.rules.specs.Cleanup.{best_cube, with_rest, cube_at, common_cube, absorption, cheaper, contest, turn, cleanup}
 use Rattle.rules.specs.Form.{cube, or_chain, raw_form, raw_cost, literals}
 use Rattle.rules.specs.Monomial.{constant, monomials}

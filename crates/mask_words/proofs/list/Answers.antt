@@ -39,21 +39,24 @@ overflow_cast-out c =
 pub offset_bounds-out-next : goal.offset_bounds-out-next
 offset_bounds-out-next c =
     let some : 0 < c.loop-left.left = omega arith in
-    let lowest : (let v = c.loop-left.left in places 64 v ≡ count_trailing_zeros 64 v ∷ places 64 (bit_and v (v - 1))) = places-lowest 64 c.loop-left.left some c.loop-left.invariant.0 in
+    let lowest : (let v = c.loop-left.left in places 64 v ≡ count_trailing_zeros 64 v ∷ places 64 (bit_and v (v - 1))) =
+    places-lowest 64 c.loop-left.left some c.loop-left.invariant.0 in
     let room : c.loop-left.next < length c.loop-left.out = omega (arith, ap length lowest) in
     omega (arith, room)
 
 pub bounds-out-next : goal.bounds-out-next
 bounds-out-next c =
     let some : 0 < c.loop-left.left = omega arith in
-    let lowest : (let v = c.loop-left.left in places 64 v ≡ count_trailing_zeros 64 v ∷ places 64 (bit_and v (v - 1))) = places-lowest 64 c.loop-left.left some c.loop-left.invariant.0 in
+    let lowest : (let v = c.loop-left.left in places 64 v ≡ count_trailing_zeros 64 v ∷ places 64 (bit_and v (v - 1))) =
+    places-lowest 64 c.loop-left.left some c.loop-left.invariant.0 in
     let room : c.loop-left.next < length c.loop-left.out = omega (arith, ap length lowest) in
     room
 
 pub overflow_add-next : goal.overflow_add-next
 overflow_add-next c =
     let some : 0 < c.loop-left.left = omega arith in
-    let lowest : (let v = c.loop-left.left in places 64 v ≡ count_trailing_zeros 64 v ∷ places 64 (bit_and v (v - 1))) = places-lowest 64 c.loop-left.left some c.loop-left.invariant.0 in
+    let lowest : (let v = c.loop-left.left in places 64 v ≡ count_trailing_zeros 64 v ∷ places 64 (bit_and v (v - 1))) =
+    places-lowest 64 c.loop-left.left some c.loop-left.invariant.0 in
     let room : c.loop-left.next < length c.loop-left.out = omega (arith, ap length lowest) in
     omega (arith, room)
 
@@ -71,7 +74,8 @@ loop-left-smaller c =
 pub loop-left-preserved : goal.loop-left-preserved
 loop-left-preserved c =
     let some : 0 < c.loop-left.left = omega arith in
-    let lowest : (let v = c.loop-left.left in places 64 v ≡ count_trailing_zeros 64 v ∷ places 64 (bit_and v (v - 1))) = places-lowest 64 c.loop-left.left some c.loop-left.invariant.0 in
+    let lowest : (let v = c.loop-left.left in places 64 v ≡ count_trailing_zeros 64 v ∷ places 64 (bit_and v (v - 1))) =
+    places-lowest 64 c.loop-left.left some c.loop-left.invariant.0 in
     let falls : bit_and c.loop-left.left (c.loop-left.left - 1) < c.loop-left.left = clear-lt 64 c.loop-left.left some c.loop-left.invariant.0 in (
       omega (arith, falls),
       simp length-set c.loop-left.invariant.1,

@@ -21,7 +21,8 @@ pub in_package-requires : goal.in_package-requires
 unfolding examine_rule rule_in
 in_package-requires c d h =
     let rule : RuleAt = rule_at_of c.args.rule in
-    let told : (e : Examination) → c.examine_for_reader-examination.result ≡ e → (examine_rule (rule_in c.args.bytes.now rule) ≡ examination_of e) = λ e q. let r = rule in
+    let told : (e : Examination) → c.examine_for_reader-examination.result ≡ e → (examine_rule (rule_in c.args.bytes.now rule) ≡ examination_of e) =
+    λ e q. let r = rule in
     let size : r.next - r.start ≡ r.length = omega (arith, c.requires.expression) in
     ap (λ (k : ℕ). examine r.flags (word_table r.flags r.table) (part c.args.bytes.now r.start k)) (sym size)
     ∙ sym c.examine_for_reader-examination.ensures ∙ ap examination_of q in
@@ -34,20 +35,26 @@ pub returns-in-Accepted : goal.returns-in-Accepted
 unfolding in_package examine_rule rule_in
 returns-in-Accepted c =
     let rule : RuleAt = rule_at_of c.args.rule in
-    let told : (e : Examination) → c.examine_for_reader-examination.result ≡ e → (examine_rule (rule_in c.args.bytes.now rule) ≡ examination_of e) = λ e q. let r = rule in
+    let told : (e : Examination) → c.examine_for_reader-examination.result ≡ e → (examine_rule (rule_in c.args.bytes.now rule) ≡ examination_of e) =
+    λ e q. let r = rule in
     let size : r.next - r.start ≡ r.length = omega (arith, c.requires.expression) in
     ap (λ (k : ℕ). examine r.flags (word_table r.flags r.table) (part c.args.bytes.now r.start k)) (sym size)
     ∙ sym c.examine_for_reader-examination.ensures ∙ ap examination_of q in
-    let given : (o : Outcome ℕ) → examine_rule (rule_in c.args.bytes.now rule) ≡ o → (in_package rule.start o then (λ k. gives (some rule))) ≡ (in_package rule.start (examine_rule (rule_in c.args.bytes.now rule)) then (λ k. gives (some rule))) = λ o e. ap (λ (x : Outcome ℕ). in_package rule.start x then (λ k. gives (some rule))) (sym e) in
+    let given : (o : Outcome ℕ) → examine_rule (rule_in c.args.bytes.now rule) ≡ o → (in_package rule.start o then (λ k. gives (some rule))) ≡
+    (in_package rule.start (examine_rule (rule_in c.args.bytes.now rule)) then (λ k. gives (some rule))) =
+    λ o e. ap (λ (x : Outcome ℕ). in_package rule.start x then (λ k. gives (some rule))) (sym e) in
     given _ (told _ c.in-Accepted.is)
 
 pub returns-in-Refused : goal.returns-in-Refused
 unfolding examine_rule rule_in
 returns-in-Refused c =
     let rule : RuleAt = rule_at_of c.args.rule in
-    let told : (e : Examination) → c.examine_for_reader-examination.result ≡ e → (examine_rule (rule_in c.args.bytes.now rule) ≡ examination_of e) = λ e q. let r = rule in
+    let told : (e : Examination) → c.examine_for_reader-examination.result ≡ e → (examine_rule (rule_in c.args.bytes.now rule) ≡ examination_of e) =
+    λ e q. let r = rule in
     let size : r.next - r.start ≡ r.length = omega (arith, c.requires.expression) in
     ap (λ (k : ℕ). examine r.flags (word_table r.flags r.table) (part c.args.bytes.now r.start k)) (sym size)
     ∙ sym c.examine_for_reader-examination.ensures ∙ ap examination_of q in
-    let given : (o : Outcome ℕ) → examine_rule (rule_in c.args.bytes.now rule) ≡ o → (in_package rule.start o then (λ k. gives (some rule))) ≡ (in_package rule.start (examine_rule (rule_in c.args.bytes.now rule)) then (λ k. gives (some rule))) = λ o e. ap (λ (x : Outcome ℕ). in_package rule.start x then (λ k. gives (some rule))) (sym e) in
+    let given : (o : Outcome ℕ) → examine_rule (rule_in c.args.bytes.now rule) ≡ o → (in_package rule.start o then (λ k. gives (some rule))) ≡
+    (in_package rule.start (examine_rule (rule_in c.args.bytes.now rule)) then (λ k. gives (some rule))) =
+    λ o e. ap (λ (x : Outcome ℕ). in_package rule.start x then (λ k. gives (some rule))) (sym e) in
     ap (λ (x : Outcome ℕ). x then (λ k. gives (some rule))) c.in_package.ensures ∙ given _ (told _ c.in-Refused.is)

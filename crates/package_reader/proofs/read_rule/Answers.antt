@@ -18,22 +18,29 @@ returns-then-bytes-place c = let a = c.args in sym (read_past a.bytes.now a.plac
 
 pub examined-requires : goal.examined-requires
 examined-requires c =
-    let header : (h : Header) → c.read-header.result ≡ h → headed c.args.bytes.now c.args.place ≡ header_of h = λ h e. sym c.read-header.ensures ∙ ap header_of e in
+    let header : (h : Header) → c.read-header.result ≡ h → headed c.args.bytes.now c.args.place ≡ header_of h =
+    λ h e. sym c.read-header.ensures ∙ ap header_of e in
     let a = c.args in
     headed-whole a.bytes.now a.place _ (header _ c.in-Found.is) (omega arith)
 
 pub returns-in-Found : goal.returns-in-Found
 returns-in-Found c =
-    let header : (h : Header) → c.read-header.result ≡ h → headed c.args.bytes.now c.args.place ≡ header_of h = λ h e. sym c.read-header.ensures ∙ ap header_of e in
-    let told : (o : Outcome RuleAt) → headed c.args.bytes.now c.args.place ≡ o → (let s = c.args.bytes.now in read_rule s c.args.place ≡ (o then (λ r. in_package r.start (examine_rule (rule_in s r)) then (λ k. gives (some r))))) = λ o e. let s = c.args.bytes.now in
+    let header : (h : Header) → c.read-header.result ≡ h → headed c.args.bytes.now c.args.place ≡ header_of h =
+    λ h e. sym c.read-header.ensures ∙ ap header_of e in
+    let told : (o : Outcome RuleAt) → headed c.args.bytes.now c.args.place ≡ o →
+    (let s = c.args.bytes.now in read_rule s c.args.place ≡
+    (o then (λ r. in_package r.start (examine_rule (rule_in s r)) then (λ k. gives (some r))))) = λ o e. let s = c.args.bytes.now in
     read-headed s c.args.place (omega arith) (omega arith)
     ∙ ap (λ (x : Outcome RuleAt). x then (λ r. in_package r.start (examine_rule (rule_in s r)) then (λ k. gives (some r)))) e in
     c.examined.ensures ∙ sym (told _ (header _ c.in-Found.is))
 
 pub returns-in-Refused : goal.returns-in-Refused
 returns-in-Refused c =
-    let header : (h : Header) → c.read-header.result ≡ h → headed c.args.bytes.now c.args.place ≡ header_of h = λ h e. sym c.read-header.ensures ∙ ap header_of e in
-    let told : (o : Outcome RuleAt) → headed c.args.bytes.now c.args.place ≡ o → (let s = c.args.bytes.now in read_rule s c.args.place ≡ (o then (λ r. in_package r.start (examine_rule (rule_in s r)) then (λ k. gives (some r))))) = λ o e. let s = c.args.bytes.now in
+    let header : (h : Header) → c.read-header.result ≡ h → headed c.args.bytes.now c.args.place ≡ header_of h =
+    λ h e. sym c.read-header.ensures ∙ ap header_of e in
+    let told : (o : Outcome RuleAt) → headed c.args.bytes.now c.args.place ≡ o →
+    (let s = c.args.bytes.now in read_rule s c.args.place ≡
+    (o then (λ r. in_package r.start (examine_rule (rule_in s r)) then (λ k. gives (some r))))) = λ o e. let s = c.args.bytes.now in
     read-headed s c.args.place (omega arith) (omega arith)
     ∙ ap (λ (x : Outcome RuleAt). x then (λ r. in_package r.start (examine_rule (rule_in s r)) then (λ k. gives (some r)))) e in
     sym (told _ (header _ c.in-Refused.is))

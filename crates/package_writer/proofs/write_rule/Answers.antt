@@ -34,7 +34,8 @@ pub put-requires : goal.put-requires
 unfolding examine_rule
 put-requires c =
     let rule : Rule = record { flags = c.args.flags; table = c.args.table; expression = c.args.expression.now } in
-    let examined : (e : Examination) → c.examine_for_writer-examination.result ≡ e → examine_rule rule ≡ examination_of e = λ e q. sym c.examine_for_writer-examination.ensures ∙ ap examination_of q in
+    let examined : (e : Examination) → c.examine_for_writer-examination.result ≡ e → examine_rule rule ≡ examination_of e =
+    λ e q. sym c.examine_for_writer-examination.ensures ∙ ap examination_of q in
     let bytes = get_or-below 256 c.args.expression.now 0 (λ i. (c.type_inv.expression i).fits) in
     (omega arith, accepted-limit rule _ (examined _ c.in-Accepted.is) bytes)
 
@@ -42,8 +43,10 @@ pub returns-in-Accepted : goal.returns-in-Accepted
 unfolding examine_rule
 returns-in-Accepted c =
     let rule : Rule = record { flags = c.args.flags; table = c.args.table; expression = c.args.expression.now } in
-    let examined : (e : Examination) → c.examine_for_writer-examination.result ≡ e → examine_rule rule ≡ examination_of e = λ e q. sym c.examine_for_writer-examination.ensures ∙ ap examination_of q in
-    let written : (room : ℕ) (o : Outcome ℕ) → examine_rule rule ≡ o → write_rule rule room ≡ (o then (λ k. fill room (rule_bytes rule))) = λ room o e. write-examined rule room c.if-flags-gt-PACKAGE_FLAGS.false (sym c.is_stray.ensures ∙ c.if-is_stray.false)
+    let examined : (e : Examination) → c.examine_for_writer-examination.result ≡ e → examine_rule rule ≡ examination_of e =
+    λ e q. sym c.examine_for_writer-examination.ensures ∙ ap examination_of q in
+    let written : (room : ℕ) (o : Outcome ℕ) → examine_rule rule ≡ o → write_rule rule room ≡ (o then (λ k. fill room (rule_bytes rule))) =
+    λ room o e. write-examined rule room c.if-flags-gt-PACKAGE_FLAGS.false (sym c.is_stray.ensures ∙ c.if-is_stray.false)
     ∙ ap (λ (x : Outcome ℕ). x then (λ k. fill room (rule_bytes rule))) e in
     let out = c.args.out.now in
     let same = written (length out) _ (examined _ c.in-Accepted.is) in
@@ -53,8 +56,10 @@ pub returns-in-Refused : goal.returns-in-Refused
 unfolding examine_rule
 returns-in-Refused c =
     let rule : Rule = record { flags = c.args.flags; table = c.args.table; expression = c.args.expression.now } in
-    let examined : (e : Examination) → c.examine_for_writer-examination.result ≡ e → examine_rule rule ≡ examination_of e = λ e q. sym c.examine_for_writer-examination.ensures ∙ ap examination_of q in
-    let written : (room : ℕ) (o : Outcome ℕ) → examine_rule rule ≡ o → write_rule rule room ≡ (o then (λ k. fill room (rule_bytes rule))) = λ room o e. write-examined rule room c.if-flags-gt-PACKAGE_FLAGS.false (sym c.is_stray.ensures ∙ c.if-is_stray.false)
+    let examined : (e : Examination) → c.examine_for_writer-examination.result ≡ e → examine_rule rule ≡ examination_of e =
+    λ e q. sym c.examine_for_writer-examination.ensures ∙ ap examination_of q in
+    let written : (room : ℕ) (o : Outcome ℕ) → examine_rule rule ≡ o → write_rule rule room ≡ (o then (λ k. fill room (rule_bytes rule))) =
+    λ room o e. write-examined rule room c.if-flags-gt-PACKAGE_FLAGS.false (sym c.is_stray.ensures ∙ c.if-is_stray.false)
     ∙ ap (λ (x : Outcome ℕ). x then (λ k. fill room (rule_bytes rule))) e in
     let out = c.args.out.now in
     let both = left-refuses out _ _ _ (written (length out) _ (examined _ c.in-Refused.is)) in

@@ -72,4 +72,5 @@ returns t c =
     let a = c.args in
     let l = a.terms.now in
     let whole = more l a.from a.count c.requires.0 (omega arith) in
-    writes-of (sym whole) (writes-join xo (first l a.from a.count) (second l a.from a.count) c.put_fold-left.ensures c.put_fold-right.ensures c.put_mark.ensures)
+    writes-of (sym whole)
+    (writes-join xo (first l a.from a.count) (second l a.from a.count) c.put_fold-left.ensures c.put_fold-right.ensures c.put_mark.ensures)

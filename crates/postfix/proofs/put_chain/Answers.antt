@@ -93,7 +93,8 @@ shape_of-out c =
     let mark : List ℕ = c.args.first ∷ c.args.second ∷ [] in
     let some : 0 < c.args.mask = c.requires.0 in
     let fits : c.args.mask < 2 ^ 64 = c.ranges.mask.fits in
-    let whole : Put (chained mark (flags c.args.mask)) (2 * length (flags c.args.mask) - 1) c.args.at c.loop-left.next c.args.out.now c.loop-left.out = let l = c.loop-left in
+    let whole : Put (chained mark (flags c.args.mask))
+    (2 * length (flags c.args.mask) - 1) c.args.at c.loop-left.next c.args.out.now c.loop-left.out = let l = c.loop-left in
     puts-chain mark c.args.mask some fits c.put_leaf-next.ensures
     (l.invariant.2 l.next l.out (links-none mark l.left l.next l.out l.invariant.1 c.loop-left-test.false)) in
     put-length whole
@@ -103,7 +104,8 @@ returns c =
     let mark : List ℕ = c.args.first ∷ c.args.second ∷ [] in
     let some : 0 < c.args.mask = c.requires.0 in
     let fits : c.args.mask < 2 ^ 64 = c.ranges.mask.fits in
-    let whole : Put (chained mark (flags c.args.mask)) (2 * length (flags c.args.mask) - 1) c.args.at c.loop-left.next c.args.out.now c.loop-left.out = let l = c.loop-left in
+    let whole : Put (chained mark (flags c.args.mask))
+    (2 * length (flags c.args.mask) - 1) c.args.at c.loop-left.next c.args.out.now c.loop-left.out = let l = c.loop-left in
     puts-chain mark c.args.mask some fits c.put_leaf-next.ensures
     (l.invariant.2 l.next l.out (links-none mark l.left l.next l.out l.invariant.1 c.loop-left-test.false)) in
     whole

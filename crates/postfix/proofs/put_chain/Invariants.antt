@@ -11,7 +11,8 @@ use Rattle.postfix.proofs.put_chain.Given as goal
 abbrev pub invariant-loop-left : goal.invariant-loop-left
 invariant-loop-left l =
     (l.left < 2 ^ 64) × Room (linked (l.first ∷ l.second ∷ []) (flags l.left)) l.next l.out
-    × ((b : Cursor) (after : List ℕ) → Links (l.first ∷ l.second ∷ []) l.left l.next b l.out after → Links (l.first ∷ l.second ∷ []) l.initial.left l.initial.next b l.initial.out after)
+    × ((b : Cursor) (after : List ℕ) → Links (l.first ∷ l.second ∷ []) l.left l.next b l.out after → Links
+    (l.first ∷ l.second ∷ []) l.initial.left l.initial.next b l.initial.out after)
 
 abbrev pub decreases-loop-left : goal.decreases-loop-left
 decreases-loop-left l = l.left

@@ -16,15 +16,18 @@ returns-then-count-ge-RECORD_LIMIT c = ap reading_of c.refused.ensures ∙ sym (
 
 pub joined-requires : goal.joined-requires
 joined-requires c =
-    let told : (f : Found) → c.record_at-found.result ≡ f → (let a = c.args in record_over a.flags a.bytes.now a.depth a.place ≡ found_of f) = λ f e. sym (ap found_of (sym e) ∙ c.record_at-found.ensures) in
+    let told : (f : Found) → c.record_at-found.result ≡ f → (let a = c.args in record_over a.flags a.bytes.now a.depth a.place ≡ found_of f) =
+    λ f e. sym (ap found_of (sym e) ∙ c.record_at-found.ensures) in
     ((over-passed c.requires (omega arith) (omega arith) _ (told _ c.in-Whole.is)).enough, c.requires.room)
 
 pub returns-in-Whole : goal.returns-in-Whole
 returns-in-Whole c =
-    let told : (f : Found) → c.record_at-found.result ≡ f → (let a = c.args in record_over a.flags a.bytes.now a.depth a.place ≡ found_of f) = λ f e. sym (ap found_of (sym e) ∙ c.record_at-found.ensures) in
+    let told : (f : Found) → c.record_at-found.result ≡ f → (let a = c.args in record_over a.flags a.bytes.now a.depth a.place ≡ found_of f) =
+    λ f e. sym (ap found_of (sym e) ∙ c.record_at-found.ensures) in
     c.joined.ensures ∙ sym (reached-found c.requires (omega arith) (omega arith) _ (told _ c.in-Whole.is))
 
 pub returns-in-Refused : goal.returns-in-Refused
 returns-in-Refused c =
-    let told : (f : Found) → c.record_at-found.result ≡ f → (let a = c.args in record_over a.flags a.bytes.now a.depth a.place ≡ found_of f) = λ f e. sym (ap found_of (sym e) ∙ c.record_at-found.ensures) in
+    let told : (f : Found) → c.record_at-found.result ≡ f → (let a = c.args in record_over a.flags a.bytes.now a.depth a.place ≡ found_of f) =
+    λ f e. sym (ap found_of (sym e) ∙ c.record_at-found.ensures) in
     sym (reached-refused c.requires (omega arith) (omega arith) _ _ (told _ c.in-Refused.is))

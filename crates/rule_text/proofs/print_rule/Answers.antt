@@ -27,19 +27,22 @@ overflow_sub-count c =
 pub returns-in_default : goal.returns-in_default
 returns-in_default c =
     let s = c.args.input.now in
-    let both = shows-told (shows-eq (sym (printed-other s (sym c.flag_count-size.ensures ∙ ap size_of c.in_default.is))) c.bad_line-in_default.ensures) in
+    let both = shows-told
+    (shows-eq (sym (printed-other s (sym c.flag_count-size.ensures ∙ ap size_of c.in_default.is))) c.bad_line-in_default.ensures) in
     record { count_le_page_bytes = both.0; bytes_len = both.1 }
 
 pub slice_bounds-table_page-end : goal.slice_bounds-table_page-end
 slice_bounds-table_page-end c =
-    let digits : (let s = c.args.input.now in length (take (length s - 1) s) ≡ length s - 1) = let s = c.args.input.now in length-take-le (length s - 1) s (omega arith) in
+    let digits : (let s = c.args.input.now in length (take (length s - 1) s) ≡ length s - 1) =
+    let s = c.args.input.now in length-take-le (length s - 1) s (omega arith) in
     sym digits
 
 pub table_page-requires : goal.table_page-requires
 table_page-requires c =
     let line : is_line c.args.input.now ≡ true = sym c.is_line.ensures ∙ c.if-not-is_line.false in
     let flags : flags_of (length c.args.input.now - 1) ≡ some c.in-Flags.flags = sym c.flag_count-size.ensures ∙ ap size_of c.in-Flags.is in
-    let digits : (let s = c.args.input.now in length (take (length s - 1) s) ≡ length s - 1) = let s = c.args.input.now in length-take-le (length s - 1) s (omega arith) in
+    let digits : (let s = c.args.input.now in length (take (length s - 1) s) ≡ length s - 1) =
+    let s = c.args.input.now in length-take-le (length s - 1) s (omega arith) in
     let s = c.args.input.now in
     let f = flags-some _ _ flags in
     (f.1, digits ∙ f.0, line-all s line)

@@ -34,7 +34,8 @@ pub subsets-requires : goal.subsets-requires
 subsets-requires c = (c.requires, omega arith)
 
 pub returns-then-left-subsets-ne0 : goal.returns-then-left-subsets-ne0
-returns-then-left-subsets-ne0 c = sym (meets-found c.loop-left.left (omega arith) c.loop-left.invariant.0 c.subsets.result c.subsets.ensures (omega arith)) ∙ c.loop-left.invariant.1
+returns-then-left-subsets-ne0 c = sym
+    (meets-found c.loop-left.left (omega arith) c.loop-left.invariant.0 c.subsets.result c.subsets.ensures (omega arith)) ∙ c.loop-left.invariant.1
 
 pub loop-left-smaller : goal.loop-left-smaller
 loop-left-smaller c = clear-lt 64 c.loop-left.left (omega arith) c.loop-left.invariant.0

@@ -31,8 +31,10 @@ list_degree-at-requires c =
     ∙ ordered-monomials masks c.args.flags (ascending-held c.args.coefficients.now c.args.words) c.requires.below in
     let l : List ℕ = masks in
     let d : ℕ = c.loop-degree.degree in
-    let more : degrees (monomials l) (d + 1) ≡ degrees (monomials l) d ++ of_degree d l = ap (degrees (monomials l)) (add-one d) ∙ degrees-suc l d c.loop-degree.invariant.0 in
-    let room : Room (of_degree d l) c.loop-degree.at c.loop-degree.out = let fits = degrees-le (monomials l) (d + 1) (c.args.flags + 1) (omega arith) in
+    let more : degrees (monomials l) (d + 1) ≡ degrees (monomials l) d ++ of_degree d l =
+    ap (degrees (monomials l)) (add-one d) ∙ degrees-suc l d c.loop-degree.invariant.0 in
+    let room : Room (of_degree d l) c.loop-degree.at c.loop-degree.out =
+    let fits = degrees-le (monomials l) (d + 1) (c.args.flags + 1) (omega arith) in
     room_next (of_degree d l) (rw (← more) (omega (arith, ap length whole, length-ordered (monomials l)))) c.loop-degree.invariant.2 in
     record { words_in_bounds = omega arith; room = room }
 
@@ -47,7 +49,8 @@ loop-degree-preserved c =
     let masks : List ℕ = held c.args.words c.args.coefficients.now in
     let l : List ℕ = masks in
     let d : ℕ = c.loop-degree.degree in
-    let more : degrees (monomials l) (d + 1) ≡ degrees (monomials l) d ++ of_degree d l = ap (degrees (monomials l)) (add-one d) ∙ degrees-suc l d c.loop-degree.invariant.0 in
+    let more : degrees (monomials l) (d + 1) ≡ degrees (monomials l) d ++ of_degree d l =
+    ap (degrees (monomials l)) (add-one d) ∙ degrees-suc l d c.loop-degree.invariant.0 in
     (omega arith, omega arith, rw more (stored-append c.loop-degree.invariant.2 c.list_degree-at.ensures))
 
 pub shape_of-out : goal.shape_of-out

@@ -17,7 +17,8 @@ returns-then-degree-above c =
 
 pub list_degree-requires : goal.list_degree-requires
 list_degree-requires c =
-    let cut : (let a = c.args in of_degree (a.degree - c.flag_count-above.result) (masks c.form_at.result) ≡ of_block a.degree a.i a.coefficients.now) = let a = c.args in
+    let cut : (let a = c.args in of_degree (a.degree - c.flag_count-above.result)
+    (masks c.form_at.result) ≡ of_block a.degree a.i a.coefficients.now) = let a = c.args in
     ap (of_degree (a.degree - c.flag_count-above.result)) c.form_at.ensures
     ∙ ap (λ (k : ℕ). of_degree (a.degree - k) (block a.i a.coefficients.now)) c.flag_count-above.ensures.0
     ∙ block-some a.degree a.i a.coefficients.now (omega arith) in
@@ -25,7 +26,8 @@ list_degree-requires c =
 
 pub returns : goal.returns
 returns c =
-    let cut : (let a = c.args in of_degree (a.degree - c.flag_count-above.result) (masks c.form_at.result) ≡ of_block a.degree a.i a.coefficients.now) = let a = c.args in
+    let cut : (let a = c.args in of_degree (a.degree - c.flag_count-above.result)
+    (masks c.form_at.result) ≡ of_block a.degree a.i a.coefficients.now) = let a = c.args in
     ap (of_degree (a.degree - c.flag_count-above.result)) c.form_at.ensures
     ∙ ap (λ (k : ℕ). of_degree (a.degree - k) (block a.i a.coefficients.now)) c.flag_count-above.ensures.0
     ∙ block-some a.degree a.i a.coefficients.now (omega arith) in

@@ -26,7 +26,8 @@ list_block-next-requires c =
     let ws : List ℕ = c.args.coefficients.now in
     let i : ℕ = c.loop-i.i in
     let next : List ℕ = map (λ j. 64 * i + j) (of_block d i ws) in
-    let more : of_degree d (held (i + 1) ws) ≡ of_degree d (held i ws) ++ next = ap (λ (k : ℕ). of_degree d (held k ws)) (add-one i) ∙ held-keep-suc ws (λ m. eqb (ones m) d) i in
+    let more : of_degree d (held (i + 1) ws) ≡ of_degree d (held i ws) ++ next =
+    ap (λ (k : ℕ). of_degree d (held k ws)) (add-one i) ∙ held-keep-suc ws (λ m. eqb (ones m) d) i in
     let room : Room next c.loop-i.next c.loop-i.out = let fits = held-le ws (λ m. eqb (ones m) d) (i + 1) c.args.words (omega arith) in
     room_next next (rw (← more) (omega arith)) c.loop-i.invariant.1 in
     record { i_in_bounds = omega arith; room = omega (arith, room, length-map (of_block d i ws) (λ j. 64 * i + j)) }
@@ -43,7 +44,8 @@ loop-i-preserved c =
     let ws : List ℕ = c.args.coefficients.now in
     let i : ℕ = c.loop-i.i in
     let next : List ℕ = map (λ j. 64 * i + j) (of_block d i ws) in
-    let more : of_degree d (held (i + 1) ws) ≡ of_degree d (held i ws) ++ next = ap (λ (k : ℕ). of_degree d (held k ws)) (add-one i) ∙ held-keep-suc ws (λ m. eqb (ones m) d) i in
+    let more : of_degree d (held (i + 1) ws) ≡ of_degree d (held i ws) ++ next =
+    ap (λ (k : ℕ). of_degree d (held k ws)) (add-one i) ∙ held-keep-suc ws (λ m. eqb (ones m) d) i in
     (omega arith, rw more (stored-append c.loop-i.invariant.1 c.list_block-next.ensures))
 
 pub shape_of-out : goal.shape_of-out

@@ -9,7 +9,8 @@ use Rattle.anf_transform.proofs.between.between.Given as goal
 
 abbrev pub invariant-loop-j : goal.invariant-loop-j
 invariant-loop-j l =
-    (l.j ≤ l.count) × (length l.words ≡ length l.initial.words) × ((f : ℕ → Bool) → Holds (lowest 6 f) l.initial.words → Holds (lowest (6 + l.j) f) l.words)
+    (l.j ≤ l.count) × (length l.words ≡ length l.initial.words) ×
+    ((f : ℕ → Bool) → Holds (lowest 6 f) l.initial.words → Holds (lowest (6 + l.j) f) l.words)
 
 abbrev pub decreases-loop-j : goal.decreases-loop-j
 decreases-loop-j l = l.count - l.j

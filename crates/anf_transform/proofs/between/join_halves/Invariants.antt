@@ -8,7 +8,8 @@ use Rattle.anf_transform.proofs.between.join_halves.Given as goal
 
 abbrev pub invariant-loop-i : goal.invariant-loop-i
 invariant-loop-i l =
-    (l.i-end ≡ l.base + 2 * l.step) × (l.base + l.step ≤ l.i) × (l.i ≤ l.i-end) × Changed (l.base + l.step) l.i (pair_xor l.step l.initial.words) l.initial.words l.words
+    (l.i-end ≡ l.base + 2 * l.step) × (l.base + l.step ≤ l.i) × (l.i ≤ l.i-end) × Changed (l.base + l.step) l.i
+    (pair_xor l.step l.initial.words) l.initial.words l.words
 
 abbrev pub decreases-loop-i : goal.decreases-loop-i
 decreases-loop-i l = l.i-end - l.i

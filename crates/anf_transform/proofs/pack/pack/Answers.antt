@@ -19,13 +19,15 @@ use Rattle.anf_transform.proofs.pack.pack.Goals as goal
 pub overflow_mul-i : goal.overflow_mul-i
 overflow_mul-i c =
     let counted : c.per_word-count.result ≡ min (2 ^ c.args.flags) 64 = c.per_word-count.ensures ∙ ap (λ (k : ℕ). min k 64) c.setting_count.ensures in
-    let held : 64 * c.loop-i.i + c.per_word-count.result ≤ 2 ^ c.args.flags = omega (arith, counted, part-fits c.args.flags c.loop-i.i (omega arith)) in
+    let held : 64 * c.loop-i.i + c.per_word-count.result ≤ 2 ^ c.args.flags =
+    omega (arith, counted, part-fits c.args.flags c.loop-i.i (omega arith)) in
     omega (arith, held)
 
 pub pack_word-requires : goal.pack_word-requires
 pack_word-requires c =
     let counted : c.per_word-count.result ≡ min (2 ^ c.args.flags) 64 = c.per_word-count.ensures ∙ ap (λ (k : ℕ). min k 64) c.setting_count.ensures in
-    let held : 64 * c.loop-i.i + c.per_word-count.result ≤ 2 ^ c.args.flags = omega (arith, counted, part-fits c.args.flags c.loop-i.i (omega arith)) in
+    let held : 64 * c.loop-i.i + c.per_word-count.result ≤ 2 ^ c.args.flags =
+    omega (arith, counted, part-fits c.args.flags c.loop-i.i (omega arith)) in
     omega (arith, held, counted, min-le_right (2 ^ c.args.flags) 64)
 
 pub loop-i-preserved : goal.loop-i-preserved

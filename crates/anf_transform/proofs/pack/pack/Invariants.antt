@@ -9,7 +9,8 @@ use Rattle.anf_transform.proofs.pack.pack.Given as goal
 
 abbrev pub invariant-loop-i : goal.invariant-loop-i
 invariant-loop-i l =
-    (l.i-end ≡ word_count l.flags) × (l.i ≤ l.i-end) × (length l.out ≡ word_count l.flags) × (take l.i l.out ≡ take l.i (words l.flags (entry l.table)))
+    (l.i-end ≡ word_count l.flags) × (l.i ≤ l.i-end) × (length l.out ≡ word_count l.flags) ×
+    (take l.i l.out ≡ take l.i (words l.flags (entry l.table)))
 
 abbrev pub decreases-loop-i : goal.decreases-loop-i
 decreases-loop-i l = l.i-end - l.i

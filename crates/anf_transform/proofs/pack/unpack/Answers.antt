@@ -26,25 +26,29 @@ loop-i-init c =
 pub offset_bounds-out-i : goal.offset_bounds-out-i
 offset_bounds-out-i c =
     let counted : c.per_word-count.result ≡ min (2 ^ c.args.flags) 64 = c.per_word-count.ensures ∙ ap (λ (k : ℕ). min k 64) c.setting_count.ensures in
-    let held : 64 * (c.loop-i.i - 1) + c.per_word-count.result ≤ 2 ^ c.args.flags = omega (arith, counted, part-fits c.args.flags (c.loop-i.i - 1) (omega arith)) in
+    let held : 64 * (c.loop-i.i - 1) + c.per_word-count.result ≤ 2 ^ c.args.flags =
+    omega (arith, counted, part-fits c.args.flags (c.loop-i.i - 1) (omega arith)) in
     omega (arith, held)
 
 pub bounds-out-i : goal.bounds-out-i
 bounds-out-i c =
     let counted : c.per_word-count.result ≡ min (2 ^ c.args.flags) 64 = c.per_word-count.ensures ∙ ap (λ (k : ℕ). min k 64) c.setting_count.ensures in
-    let held : 64 * (c.loop-i.i - 1) + c.per_word-count.result ≤ 2 ^ c.args.flags = omega (arith, counted, part-fits c.args.flags (c.loop-i.i - 1) (omega arith)) in
+    let held : 64 * (c.loop-i.i - 1) + c.per_word-count.result ≤ 2 ^ c.args.flags =
+    omega (arith, counted, part-fits c.args.flags (c.loop-i.i - 1) (omega arith)) in
     omega (arith, held, pow_pos c.args.flags)
 
 pub overflow_mul-i : goal.overflow_mul-i
 overflow_mul-i c =
     let counted : c.per_word-count.result ≡ min (2 ^ c.args.flags) 64 = c.per_word-count.ensures ∙ ap (λ (k : ℕ). min k 64) c.setting_count.ensures in
-    let held : 64 * (c.loop-i.i - 1) + c.per_word-count.result ≤ 2 ^ c.args.flags = omega (arith, counted, part-fits c.args.flags (c.loop-i.i - 1) (omega arith)) in
+    let held : 64 * (c.loop-i.i - 1) + c.per_word-count.result ≤ 2 ^ c.args.flags =
+    omega (arith, counted, part-fits c.args.flags (c.loop-i.i - 1) (omega arith)) in
     omega (arith, held)
 
 pub unpack_word-requires : goal.unpack_word-requires
 unpack_word-requires c =
     let counted : c.per_word-count.result ≡ min (2 ^ c.args.flags) 64 = c.per_word-count.ensures ∙ ap (λ (k : ℕ). min k 64) c.setting_count.ensures in
-    let held : 64 * (c.loop-i.i - 1) + c.per_word-count.result ≤ 2 ^ c.args.flags = omega (arith, counted, part-fits c.args.flags (c.loop-i.i - 1) (omega arith)) in
+    let held : 64 * (c.loop-i.i - 1) + c.per_word-count.result ≤ 2 ^ c.args.flags =
+    omega (arith, counted, part-fits c.args.flags (c.loop-i.i - 1) (omega arith)) in
     omega (arith, held, counted, min-le_right (2 ^ c.args.flags) 64)
 
 pub loop-i-preserved : goal.loop-i-preserved
@@ -60,7 +64,8 @@ loop-i-preserved c =
       c.unpack_word.auto.out ∙ l.invariant.1,
       c.unpack_word.ensures
           ∙ ap₂ (λ (v m : ℕ). sets l.out (64 * k) (map (λ j. digit (bit v j)) (upto m))) w counted
-          ∙ ap (λ (r : List ℕ). sets r (64 * k) (map (λ j. digit (bit (get_or o k 0) j)) (upto (min (2 ^ n) 64)))) (l.invariant.2 ∙ ap (unpacked n o) e)
+          ∙ ap (λ (r : List ℕ). sets r (64 * k) (map (λ j. digit (bit (get_or o k 0) j)) (upto (min (2 ^ n) 64))))
+          (l.invariant.2 ∙ ap (unpacked n o) e)
           ∙ unpacked-more n o k (omega arith),
     )
 

@@ -10,7 +10,8 @@ use Rattle.bits.specs.Range.{upto}
 use Rattle.anf_transform.proofs.pack.unpack_word.Given as goal
 
 abbrev pub invariant-loop-j : goal.invariant-loop-j
-invariant-loop-j l = (l.j ≤ l.count) × (length l.out ≡ length l.initial.out) × (l.out ≡ sets l.initial.out l.base (map (λ k. digit (bit l.word k)) (upto l.j)))
+invariant-loop-j l = (l.j ≤ l.count) × (length l.out ≡ length l.initial.out) ×
+    (l.out ≡ sets l.initial.out l.base (map (λ k. digit (bit l.word k)) (upto l.j)))
 
 abbrev pub decreases-loop-j : goal.decreases-loop-j
 decreases-loop-j l = l.count - l.j

@@ -26,7 +26,8 @@ returns-then-not-is_record c = sym (sym c.loop-start.invariant.1 ∙ rule-bad c.
 
 pub returns-then-end-line : goal.returns-then-end-line
 returns-then-end-line c =
-    let good : (let line = c.args.line.now in is_record (piece line c.loop-start.start c.until-end.result) ≡ true) = sym c.is_record.ensures ∙ c.if-not-is_record.false in
+    let good : (let line = c.args.line.now in is_record (piece line c.loop-start.start c.until-end.result) ≡ true) =
+    sym c.is_record.ensures ∙ c.if-not-is_record.false in
     sym (sym c.loop-start.invariant.1 ∙ rule-last c.until-end.ensures good c.if-end-line.true)
 
 pub overflow_add-start : goal.overflow_add-start
@@ -37,5 +38,6 @@ loop-start-smaller c = omega (arith, c.until-end.ensures.behind, c.until-end.ens
 
 pub loop-start-preserved : goal.loop-start-preserved
 loop-start-preserved c =
-    let good : (let line = c.args.line.now in is_record (piece line c.loop-start.start c.until-end.result) ≡ true) = sym c.is_record.ensures ∙ c.if-not-is_record.false in
+    let good : (let line = c.args.line.now in is_record (piece line c.loop-start.start c.until-end.result) ≡ true) =
+    sym c.is_record.ensures ∙ c.if-not-is_record.false in
     (omega (arith, c.until-end.ensures.within), sym (rule-more c.until-end.ensures good c.if-end-line.false) ∙ c.loop-start.invariant.1)

@@ -30,12 +30,14 @@ put_record-at-requires c =
 
 pub shape_of-out-then-end-line : goal.shape_of-out-then-end-line
 shape_of-out-then-end-line c =
-    let ended : (let a = c.args in Stored (expression (record_texts a.line.now)) 0 c.put_record-at.result a.out.now c.put_record-at.new.out) = walk_end c.loop-start.invariant c.until-end.ensures c.put_record-at.ensures c.if-end-line.true in
+    let ended : (let a = c.args in Stored (expression (record_texts a.line.now)) 0 c.put_record-at.result a.out.now c.put_record-at.new.out) =
+    walk_end c.loop-start.invariant c.until-end.ensures c.put_record-at.ensures c.if-end-line.true in
     stored-length ended
 
 pub returns-then-end-line : goal.returns-then-end-line
 returns-then-end-line c =
-    let ended : (let a = c.args in Stored (expression (record_texts a.line.now)) 0 c.put_record-at.result a.out.now c.put_record-at.new.out) = walk_end c.loop-start.invariant c.until-end.ensures c.put_record-at.ensures c.if-end-line.true in
+    let ended : (let a = c.args in Stored (expression (record_texts a.line.now)) 0 c.put_record-at.result a.out.now c.put_record-at.new.out) =
+    walk_end c.loop-start.invariant c.until-end.ensures c.put_record-at.ensures c.if-end-line.true in
     ended
 
 pub overflow_add-start : goal.overflow_add-start

@@ -9,7 +9,8 @@ use Rattle.examination_text.proofs.notation.record_number.Given as goal
 
 abbrev pub invariant-loop-place : goal.invariant-loop-place
 invariant-loop-place l =
-    (l.start ≤ length l.line) × (l.number ≤ l.start + 1) × (l.number + record_of (rest l.line l.start) l.left ≡ 1 + record_of (record_texts l.line) l.place)
+    (l.start ≤ length l.line) × (l.number ≤ l.start + 1) ×
+    (l.number + record_of (rest l.line l.start) l.left ≡ 1 + record_of (record_texts l.line) l.place)
 
 abbrev pub decreases-loop-place : goal.decreases-loop-place
 decreases-loop-place l = length l.line - l.start

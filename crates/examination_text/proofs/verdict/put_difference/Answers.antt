@@ -22,13 +22,15 @@ put_number-number-requires c = room-number first c.args.setting c.args.at _ c.ra
 pub put_text-names-requires : goal.put_text-names-requires
 unfolding ascii
 put_text-names-requires c =
-    let short : c.put_number-number.result ≤ c.args.at + 54 = omega (arith, number_short first c.args.setting c.ranges.setting.fits c.put_number-number.ensures) in
+    let short : c.put_number-number.result ≤ c.args.at + 54 =
+    omega (arith, number_short first c.args.setting c.ranges.setting.fits c.put_number-number.ensures) in
     omega (arith, short, stored-length c.put_number-number.ensures)
 
 pub put_flag_names-requires : goal.put_flag_names-requires
 unfolding ascii
 put_flag_names-requires c =
-    let short : c.put_number-number.result ≤ c.args.at + 54 = omega (arith, number_short first c.args.setting c.ranges.setting.fits c.put_number-number.ensures) in (
+    let short : c.put_number-number.result ≤ c.args.at + 54 =
+    omega (arith, number_short first c.args.setting c.ranges.setting.fits c.put_number-number.ensures) in (
       c.requires.0,
       omega (arith, short, stored-length c.put_number-number.ensures, c.put_text-names.ensures.place, stored-length c.put_text-names.ensures),
     )

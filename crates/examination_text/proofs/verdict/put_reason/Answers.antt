@@ -51,18 +51,22 @@ put_number-requires-in-8 c = room-number operands c.record_number-record.result 
 
 pub put_numbers-requires : goal.put_numbers-requires
 unfolding ascii
-put_numbers-requires c = room-numbers limit record_limit records c.record_number-record.result _ _ (lit< tt) c.record_number-record.type_inv (omega arith)
+put_numbers-requires c = room-numbers limit record_limit records c.record_number-record.result _ _ (lit< tt) c.record_number-record.type_inv
+    (omega arith)
 
 pub put_numbers-requires-in_default : goal.put_numbers-requires-in_default
 unfolding ascii
-put_numbers-requires-in_default c = room-numbers costly c.args.refusal.place above c.raw_cost.result _ _ (search rules) c.raw_cost.type_inv (omega arith)
+put_numbers-requires-in_default c = room-numbers costly c.args.refusal.place above c.raw_cost.result _ _ (search rules) c.raw_cost.type_inv
+    (omega arith)
 
 pub returns-in-6 : goal.returns-in-6
 unfolding ascii
 returns-in-6 c =
     let words : List ℕ = let a = c.args in
     reason a.flags a.table.now (record_texts a.line.now) a.refusal.number a.refusal.place in
-    let spoken : (label : List ℕ) → (let a = c.args in words ≡ label ++ decimal (record_of (record_texts a.line.now) a.refusal.place)) → label ++ decimal c.record_number-record.result ≡ words = λ label e. ap (λ (j : ℕ). label ++ decimal j) c.record_number-record.ensures ∙ sym e in
+    let spoken : (label : List ℕ) → (let a = c.args in words ≡ label ++ decimal (record_of (record_texts a.line.now) a.refusal.place))
+    → label ++ decimal c.record_number-record.result ≡ words =
+    λ label e. ap (λ (j : ℕ). label ++ decimal j) c.record_number-record.ensures ∙ sym e in
     stored-eq (spoken mark (reason-mark _ _ _ _ _ c.in-6.is)) c.put_number.ensures
 
 pub returns-in-7 : goal.returns-in-7
@@ -70,7 +74,9 @@ unfolding ascii
 returns-in-7 c =
     let words : List ℕ = let a = c.args in
     reason a.flags a.table.now (record_texts a.line.now) a.refusal.number a.refusal.place in
-    let spoken : (label : List ℕ) → (let a = c.args in words ≡ label ++ decimal (record_of (record_texts a.line.now) a.refusal.place)) → label ++ decimal c.record_number-record.result ≡ words = λ label e. ap (λ (j : ℕ). label ++ decimal j) c.record_number-record.ensures ∙ sym e in
+    let spoken : (label : List ℕ) → (let a = c.args in words ≡ label ++ decimal (record_of (record_texts a.line.now) a.refusal.place))
+    → label ++ decimal c.record_number-record.result ≡ words =
+    λ label e. ap (λ (j : ℕ). label ++ decimal j) c.record_number-record.ensures ∙ sym e in
     stored-eq (spoken payload (reason-payload _ _ _ _ _ c.in-7.is)) c.put_number-in-7.ensures
 
 pub returns-in-8 : goal.returns-in-8
@@ -78,7 +84,9 @@ unfolding ascii
 returns-in-8 c =
     let words : List ℕ = let a = c.args in
     reason a.flags a.table.now (record_texts a.line.now) a.refusal.number a.refusal.place in
-    let spoken : (label : List ℕ) → (let a = c.args in words ≡ label ++ decimal (record_of (record_texts a.line.now) a.refusal.place)) → label ++ decimal c.record_number-record.result ≡ words = λ label e. ap (λ (j : ℕ). label ++ decimal j) c.record_number-record.ensures ∙ sym e in
+    let spoken : (label : List ℕ) → (let a = c.args in words ≡ label ++ decimal (record_of (record_texts a.line.now) a.refusal.place))
+    → label ++ decimal c.record_number-record.result ≡ words =
+    λ label e. ap (λ (j : ℕ). label ++ decimal j) c.record_number-record.ensures ∙ sym e in
     stored-eq (spoken operands (reason-operands _ _ _ _ _ c.in-8.is)) c.put_number-in-8.ensures
 
 pub returns-in-9 : goal.returns-in-9

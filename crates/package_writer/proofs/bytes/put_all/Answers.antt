@@ -10,7 +10,8 @@ use Rattle.package_writer.proofs.bytes.put_all.Goals as goal
 
 pub bounds-out-at : goal.bounds-out-at
 bounds-out-at c =
-    let kept : length c.loop-i.out ≡ length c.args.out.now = let a = c.args in ap length c.loop-i.invariant.1 ∙ length-sets a.out.now a.at (take c.loop-i.i a.bytes.now) in
+    let kept : length c.loop-i.out ≡ length c.args.out.now =
+    let a = c.args in ap length c.loop-i.invariant.1 ∙ length-sets a.out.now a.at (take c.loop-i.i a.bytes.now) in
     omega (arith, kept)
 
 pub loop-i-preserved : goal.loop-i-preserved
@@ -24,7 +25,8 @@ loop-i-preserved c =
 
 pub shape_of-out : goal.shape_of-out
 shape_of-out c =
-    let kept : length c.loop-i.out ≡ length c.args.out.now = let a = c.args in ap length c.loop-i.invariant.1 ∙ length-sets a.out.now a.at (take c.loop-i.i a.bytes.now) in
+    let kept : length c.loop-i.out ≡ length c.args.out.now =
+    let a = c.args in ap length c.loop-i.invariant.1 ∙ length-sets a.out.now a.at (take c.loop-i.i a.bytes.now) in
     kept
 
 pub returns : goal.returns

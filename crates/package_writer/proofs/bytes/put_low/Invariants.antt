@@ -9,7 +9,8 @@ use Rattle.package_writer.proofs.bytes.put_low.Given as goal
 
 abbrev pub invariant-loop-i : goal.invariant-loop-i
 invariant-loop-i l =
-    (l.i ≤ l.count) × (length l.out ≡ length l.initial.out) × (sets l.out (l.at + l.i) (low_bytes (l.count - l.i) l.rest) ≡ sets l.initial.out l.at (low_bytes l.count l.number))
+    (l.i ≤ l.count) × (length l.out ≡ length l.initial.out) ×
+    (sets l.out (l.at + l.i) (low_bytes (l.count - l.i) l.rest) ≡ sets l.initial.out l.at (low_bytes l.count l.number))
 
 abbrev pub decreases-loop-i : goal.decreases-loop-i
 decreases-loop-i l = l.count - l.i

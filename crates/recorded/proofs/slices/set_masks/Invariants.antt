@@ -7,7 +7,8 @@ use Rattle.recorded.proofs.Filled.{Filled}
 use Rattle.recorded.proofs.slices.set_masks.Given as goal
 
 abbrev pub invariant-loop-i : goal.invariant-loop-i
-invariant-loop-i l = (l.i ≤ length l.initial.masks) × (l.i-end ≡ length l.initial.masks) × Filled (length l.initial.masks) (λ j. pair_at l.bytes (2 * j)) l.i l.masks
+invariant-loop-i l = (l.i ≤ length l.initial.masks) × (l.i-end ≡ length l.initial.masks) × Filled (length l.initial.masks)
+    (λ j. pair_at l.bytes (2 * j)) l.i l.masks
 
 abbrev pub decreases-loop-i : goal.decreases-loop-i
 decreases-loop-i l = length l.initial.masks - l.i

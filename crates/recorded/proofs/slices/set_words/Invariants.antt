@@ -7,7 +7,8 @@ use Rattle.recorded.proofs.Filled.{Filled}
 use Rattle.recorded.proofs.slices.set_words.Given as goal
 
 abbrev pub invariant-loop-i : goal.invariant-loop-i
-invariant-loop-i l = (l.i ≤ length l.initial.words) × (l.i-end ≡ length l.initial.words) × Filled (length l.initial.words) (λ j. word_at l.bytes (8 * j)) l.i l.words
+invariant-loop-i l = (l.i ≤ length l.initial.words) × (l.i-end ≡ length l.initial.words) × Filled (length l.initial.words)
+    (λ j. word_at l.bytes (8 * j)) l.i l.words
 
 abbrev pub decreases-loop-i : goal.decreases-loop-i
 decreases-loop-i l = length l.initial.words - l.i

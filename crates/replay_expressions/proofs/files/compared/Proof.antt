@@ -15,6 +15,7 @@ decreases-loop fd item tally₀ head₀ turns₀ tally head turns = turns
 pub compared-spec : {M : Type 1} → statement M
 compared-spec =
     tie.close
-    (tie.spec invariant-loop decreases-loop (λ c κs. search rules) (λ c. search rules) (λ c κs. search rules) (λ c. search rules) (λ c κs. search rules)
+    (tie.spec invariant-loop decreases-loop (λ c κs. search rules) (λ c. search rules) (λ c κs. search rules) (λ c. search rules)
+    (λ c κs. search rules)
     (λ c. search rules) (λ c. search rules) (λ c κs. search rules) (λ c κs. search rules) (λ c. search rules) (λ c. search rules)
     (λ c. search rules) (λ c. search rules))

@@ -14,7 +14,8 @@ use Rattle.table.proofs.Table.difference.Goals as goal
 
 pub returns-then-apart-eq0 : goal.returns-then-apart-eq0
 returns-then-apart-eq0 c =
-    let apart : (let a = c.args in places 64 c.low_settings-apart.result ≡ keep (λ s. bit a.values s ⊕ truth a.self s) (settings a.flags)) = ap (places 64) c.low_settings-apart.ensures ∙ apart-word c.args.flags c.requires c.args.values c.args.self.bits in
+    let apart : (let a = c.args in places 64 c.low_settings-apart.result ≡ keep (λ s. bit a.values s ⊕ truth a.self s) (settings a.flags)) =
+    ap (places 64) c.low_settings-apart.ensures ∙ apart-word c.args.flags c.requires c.args.values c.args.self.bits in
     apart_none c.low_settings-apart.result _ apart c.if-apart-eq0.true
 
 pub overflow_cast-result : goal.overflow_cast-result
@@ -22,5 +23,6 @@ overflow_cast-result c = record { fits = lt_of_le_of_lt (trailing_le 64 _) (lit<
 
 pub returns : goal.returns
 returns c =
-    let apart : (let a = c.args in places 64 c.low_settings-apart.result ≡ keep (λ s. bit a.values s ⊕ truth a.self s) (settings a.flags)) = ap (places 64) c.low_settings-apart.ensures ∙ apart-word c.args.flags c.requires c.args.values c.args.self.bits in
+    let apart : (let a = c.args in places 64 c.low_settings-apart.result ≡ keep (λ s. bit a.values s ⊕ truth a.self s) (settings a.flags)) =
+    ap (places 64) c.low_settings-apart.ensures ∙ apart-word c.args.flags c.requires c.args.values c.args.self.bits in
     let d = c.low_settings-apart.result in apart-at d _ apart (omega arith) c.low_settings-apart.type_inv
