@@ -36,13 +36,15 @@ returns-in_default c = sym
 pub after-stack-requires : goal.after-stack-requires
 after-stack-requires c =
     let found : (let a = c.args in let node = c.in-Found.node in Stepped a.flags a.bytes.now c.loop-stack.depth c.loop-stack.place c.loop-stack.count
-    (record { kind = kind_of node.kind; next = node.next })) = answer-found c.loop-stack.invariant.walk c.requires.0 c.in-Found.is c.step-answer.ensures in
+    (record { kind = kind_of node.kind; next = node.next })) =
+    answer-found c.loop-stack.invariant.walk c.requires.0 c.in-Found.is c.step-answer.ensures in
     record { index = read-index found.stands 64 (omega (arith, c.requires.0)); room = c.if-stack-ge-FULL.false }
 
 pub overflow_sub-base : goal.overflow_sub-base
 overflow_sub-base c =
     let found : (let a = c.args in let node = c.in-Found.node in Stepped a.flags a.bytes.now c.loop-stack.depth c.loop-stack.place c.loop-stack.count
-    (record { kind = kind_of node.kind; next = node.next })) = answer-found c.loop-stack.invariant.walk c.requires.0 c.in-Found.is c.step-answer.ensures in
+    (record { kind = kind_of node.kind; next = node.next })) =
+    answer-found c.loop-stack.invariant.walk c.requires.0 c.in-Found.is c.step-answer.ensures in
     omega (arith, c.arity.ensures, found.enough)
 
 pub keep-requires : goal.keep-requires
@@ -53,7 +55,8 @@ keep-requires c =
 pub loop-stack-preserved : goal.loop-stack-preserved
 loop-stack-preserved c =
     let found : (let a = c.args in let node = c.in-Found.node in Stepped a.flags a.bytes.now c.loop-stack.depth c.loop-stack.place c.loop-stack.count
-    (record { kind = kind_of node.kind; next = node.next })) = answer-found c.loop-stack.invariant.walk c.requires.0 c.in-Found.is c.step-answer.ensures in
+    (record { kind = kind_of node.kind; next = node.next })) =
+    answer-found c.loop-stack.invariant.walk c.requires.0 c.in-Found.is c.step-answer.ensures in
     let w = c.loop-stack.invariant in
     rw c.keep.ensures
     (packing-step w c.if-stack-ge-FULL.false found _ (omega (arith, c.arity.ensures, found.enough)) _ c.after-stack.ensures)
@@ -61,17 +64,20 @@ loop-stack-preserved c =
 pub overflow_add-depth : goal.overflow_add-depth
 overflow_add-depth c =
     let found : (let a = c.args in let node = c.in-Found.node in Stepped a.flags a.bytes.now c.loop-stack.depth c.loop-stack.place c.loop-stack.count
-    (record { kind = kind_of node.kind; next = node.next })) = answer-found c.loop-stack.invariant.walk c.requires.0 c.in-Found.is c.step-answer.ensures in
+    (record { kind = kind_of node.kind; next = node.next })) =
+    answer-found c.loop-stack.invariant.walk c.requires.0 c.in-Found.is c.step-answer.ensures in
     omega (arith, c.loop-stack.invariant.walk.high, found.more)
 
 pub overflow_add-count : goal.overflow_add-count
 overflow_add-count c =
     let found : (let a = c.args in let node = c.in-Found.node in Stepped a.flags a.bytes.now c.loop-stack.depth c.loop-stack.place c.loop-stack.count
-    (record { kind = kind_of node.kind; next = node.next })) = answer-found c.loop-stack.invariant.walk c.requires.0 c.in-Found.is c.step-answer.ensures in
+    (record { kind = kind_of node.kind; next = node.next })) =
+    answer-found c.loop-stack.invariant.walk c.requires.0 c.in-Found.is c.step-answer.ensures in
     omega (arith, found.more)
 
 pub loop-stack-smaller : goal.loop-stack-smaller
 loop-stack-smaller c =
     let found : (let a = c.args in let node = c.in-Found.node in Stepped a.flags a.bytes.now c.loop-stack.depth c.loop-stack.place c.loop-stack.count
-    (record { kind = kind_of node.kind; next = node.next })) = answer-found c.loop-stack.invariant.walk c.requires.0 c.in-Found.is c.step-answer.ensures in
+    (record { kind = kind_of node.kind; next = node.next })) =
+    answer-found c.loop-stack.invariant.walk c.requires.0 c.in-Found.is c.step-answer.ensures in
     omega (arith, found.more)

@@ -37,7 +37,8 @@ returns-in_default c =
 pub push-pushed-requires : goal.push-pushed-requires
 push-pushed-requires c =
     let found : (let a = c.args in let node = c.in-Found.node in Stepped a.flags a.bytes.now c.loop-node.depth c.loop-node.place c.loop-node.count
-    (record { kind = kind_of node.kind; next = node.next })) = answer-found c.loop-node.invariant.walk c.requires.0 c.in-Found.is c.step-answer.ensures in
+    (record { kind = kind_of node.kind; next = node.next })) =
+    answer-found c.loop-node.invariant.walk c.requires.0 c.in-Found.is c.step-answer.ensures in
     let w = c.loop-node.invariant in (
       w.space ∙ sym w.room,
       omega arith,
@@ -49,20 +50,23 @@ push-pushed-requires c =
 pub returns-in_default-pushed : goal.returns-in_default-pushed
 returns-in_default-pushed c =
     let found : (let a = c.args in let node = c.in-Found.node in Stepped a.flags a.bytes.now c.loop-node.depth c.loop-node.place c.loop-node.count
-    (record { kind = kind_of node.kind; next = node.next })) = answer-found c.loop-node.invariant.walk c.requires.0 c.in-Found.is c.step-answer.ensures in
+    (record { kind = kind_of node.kind; next = node.next })) =
+    answer-found c.loop-node.invariant.walk c.requires.0 c.in-Found.is c.step-answer.ensures in
     depth-full c.loop-node.invariant found _ _ c.push-pushed.ensures c.in_default-pushed.is
 
 pub keep-requires : goal.keep-requires
 keep-requires c =
     let found : (let a = c.args in let node = c.in-Found.node in Stepped a.flags a.bytes.now c.loop-node.depth c.loop-node.place c.loop-node.count
-    (record { kind = kind_of node.kind; next = node.next })) = answer-found c.loop-node.invariant.walk c.requires.0 c.in-Found.is c.step-answer.ensures in
+    (record { kind = kind_of node.kind; next = node.next })) =
+    answer-found c.loop-node.invariant.walk c.requires.0 c.in-Found.is c.step-answer.ensures in
     let w = c.loop-node.invariant in
     (omega (arith, depth_below w found _ _ c.push-pushed.ensures c.in-At.is), walk-fits w.walk)
 
 pub loop-node-preserved : goal.loop-node-preserved
 loop-node-preserved c =
     let found : (let a = c.args in let node = c.in-Found.node in Stepped a.flags a.bytes.now c.loop-node.depth c.loop-node.place c.loop-node.count
-    (record { kind = kind_of node.kind; next = node.next })) = answer-found c.loop-node.invariant.walk c.requires.0 c.in-Found.is c.step-answer.ensures in
+    (record { kind = kind_of node.kind; next = node.next })) =
+    answer-found c.loop-node.invariant.walk c.requires.0 c.in-Found.is c.step-answer.ensures in
     rw c.keep.ensures
     (depth-step c.loop-node.invariant found _ _ c.push-pushed.ensures c.in-At.is)
 
@@ -70,20 +74,23 @@ loop-node-preserved c =
 pub overflow_add-depth : goal.overflow_add-depth
 overflow_add-depth c =
     let found : (let a = c.args in let node = c.in-Found.node in Stepped a.flags a.bytes.now c.loop-node.depth c.loop-node.place c.loop-node.count
-    (record { kind = kind_of node.kind; next = node.next })) = answer-found c.loop-node.invariant.walk c.requires.0 c.in-Found.is c.step-answer.ensures in
+    (record { kind = kind_of node.kind; next = node.next })) =
+    answer-found c.loop-node.invariant.walk c.requires.0 c.in-Found.is c.step-answer.ensures in
     let next = depth-step c.loop-node.invariant found _ _ c.push-pushed.ensures c.in-At.is in
     omega (arith, next.walk.high, next.walk.few)
 
 pub overflow_add-count : goal.overflow_add-count
 overflow_add-count c =
     let found : (let a = c.args in let node = c.in-Found.node in Stepped a.flags a.bytes.now c.loop-node.depth c.loop-node.place c.loop-node.count
-    (record { kind = kind_of node.kind; next = node.next })) = answer-found c.loop-node.invariant.walk c.requires.0 c.in-Found.is c.step-answer.ensures in
+    (record { kind = kind_of node.kind; next = node.next })) =
+    answer-found c.loop-node.invariant.walk c.requires.0 c.in-Found.is c.step-answer.ensures in
     let next = depth-step c.loop-node.invariant found _ _ c.push-pushed.ensures c.in-At.is in
     omega (arith, next.walk.few)
 
 pub loop-node-smaller : goal.loop-node-smaller
 loop-node-smaller c =
     let found : (let a = c.args in let node = c.in-Found.node in Stepped a.flags a.bytes.now c.loop-node.depth c.loop-node.place c.loop-node.count
-    (record { kind = kind_of node.kind; next = node.next })) = answer-found c.loop-node.invariant.walk c.requires.0 c.in-Found.is c.step-answer.ensures in
+    (record { kind = kind_of node.kind; next = node.next })) =
+    answer-found c.loop-node.invariant.walk c.requires.0 c.in-Found.is c.step-answer.ensures in
     let next = depth-step c.loop-node.invariant found _ _ c.push-pushed.ensures c.in-At.is in
     omega (arith, next.walk.few)

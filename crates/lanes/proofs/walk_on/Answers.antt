@@ -44,7 +44,8 @@ returns-in_default c = sym (seen-refused _ _ _ (answer-refused c.loop-node.invar
 pub value_of-value-requires : goal.value_of-value-requires
 value_of-value-requires c =
     let found : (let a = c.args in let node = c.in-Found.node in Stepped a.flags a.bytes.now c.loop-node.depth c.loop-node.place c.loop-node.count
-    (record { kind = kind_of node.kind; next = node.next })) = answer-found c.loop-node.invariant.walk c.requires.0 c.in-Found.is c.step-answer.ensures in (
+    (record { kind = kind_of node.kind; next = node.next })) =
+    answer-found c.loop-node.invariant.walk c.requires.0 c.in-Found.is c.step-answer.ensures in (
       read-index found.stands (length c.args.words.now) c.requires.1,
       found.enough,
       omega
@@ -54,19 +55,22 @@ value_of-value-requires c =
 pub overflow_sub-base : goal.overflow_sub-base
 overflow_sub-base c =
     let found : (let a = c.args in let node = c.in-Found.node in Stepped a.flags a.bytes.now c.loop-node.depth c.loop-node.place c.loop-node.count
-    (record { kind = kind_of node.kind; next = node.next })) = answer-found c.loop-node.invariant.walk c.requires.0 c.in-Found.is c.step-answer.ensures in
+    (record { kind = kind_of node.kind; next = node.next })) =
+    answer-found c.loop-node.invariant.walk c.requires.0 c.in-Found.is c.step-answer.ensures in
     omega (arith, c.arity.ensures, found.enough)
 
 pub overflow_add-second : goal.overflow_add-second
 overflow_add-second c =
     let found : (let a = c.args in let node = c.in-Found.node in Stepped a.flags a.bytes.now c.loop-node.depth c.loop-node.place c.loop-node.count
-    (record { kind = kind_of node.kind; next = node.next })) = answer-found c.loop-node.invariant.walk c.requires.0 c.in-Found.is c.step-answer.ensures in
+    (record { kind = kind_of node.kind; next = node.next })) =
+    answer-found c.loop-node.invariant.walk c.requires.0 c.in-Found.is c.step-answer.ensures in
     omega (arith, c.loop-node.invariant.walk.high, found.more)
 
 pub returns-then-stack-second : goal.returns-then-stack-second
 returns-then-stack-second c =
     let found : (let a = c.args in let node = c.in-Found.node in Stepped a.flags a.bytes.now c.loop-node.depth c.loop-node.place c.loop-node.count
-    (record { kind = kind_of node.kind; next = node.next })) = answer-found c.loop-node.invariant.walk c.requires.0 c.in-Found.is c.step-answer.ensures in
+    (record { kind = kind_of node.kind; next = node.next })) =
+    answer-found c.loop-node.invariant.walk c.requires.0 c.in-Found.is c.step-answer.ensures in
     let w = c.loop-node.invariant in
     omega (arith, w.walk.high, w.room, found.more, c.arity.ensures)
 
@@ -91,19 +95,22 @@ keep-requires c =
 pub overflow_add-count : goal.overflow_add-count
 overflow_add-count c =
     let found : (let a = c.args in let node = c.in-Found.node in Stepped a.flags a.bytes.now c.loop-node.depth c.loop-node.place c.loop-node.count
-    (record { kind = kind_of node.kind; next = node.next })) = answer-found c.loop-node.invariant.walk c.requires.0 c.in-Found.is c.step-answer.ensures in
+    (record { kind = kind_of node.kind; next = node.next })) =
+    answer-found c.loop-node.invariant.walk c.requires.0 c.in-Found.is c.step-answer.ensures in
     omega (arith, found.more)
 
 pub loop-node-smaller : goal.loop-node-smaller
 loop-node-smaller c =
     let found : (let a = c.args in let node = c.in-Found.node in Stepped a.flags a.bytes.now c.loop-node.depth c.loop-node.place c.loop-node.count
-    (record { kind = kind_of node.kind; next = node.next })) = answer-found c.loop-node.invariant.walk c.requires.0 c.in-Found.is c.step-answer.ensures in
+    (record { kind = kind_of node.kind; next = node.next })) =
+    answer-found c.loop-node.invariant.walk c.requires.0 c.in-Found.is c.step-answer.ensures in
     omega (arith, found.more)
 
 pub loop-node-preserved : goal.loop-node-preserved
 loop-node-preserved c =
     let found : (let a = c.args in let node = c.in-Found.node in Stepped a.flags a.bytes.now c.loop-node.depth c.loop-node.place c.loop-node.count
-    (record { kind = kind_of node.kind; next = node.next })) = answer-found c.loop-node.invariant.walk c.requires.0 c.in-Found.is c.step-answer.ensures in
+    (record { kind = kind_of node.kind; next = node.next })) =
+    answer-found c.loop-node.invariant.walk c.requires.0 c.in-Found.is c.step-answer.ensures in
     let w = c.loop-node.invariant in
     let known = c.shared_slice_known-2-1 in
     let node = c.in-Found.node in

@@ -22,39 +22,45 @@ returns-in_default c = finding-other c.loop-at.invariant c.requires (omega arith
 pub overflow_sub-base : goal.overflow_sub-base
 overflow_sub-base c =
     let found : (let a = c.args in let node = c.in-Found.node in Stepped a.flags a.bytes.now c.loop-at.depth c.loop-at.at c.loop-at.count
-    (record { kind = kind_of node.kind; next = node.next })) = answer-found c.loop-at.invariant.walk c.requires c.in-Found.is c.step-answer.ensures in
+    (record { kind = kind_of node.kind; next = node.next })) =
+    answer-found c.loop-at.invariant.walk c.requires c.in-Found.is c.step-answer.ensures in
     omega (arith, c.arity.ensures, found.enough)
 
 pub keep-requires : goal.keep-requires
 keep-requires c =
     let found : (let a = c.args in let node = c.in-Found.node in Stepped a.flags a.bytes.now c.loop-at.depth c.loop-at.at c.loop-at.count
-    (record { kind = kind_of node.kind; next = node.next })) = answer-found c.loop-at.invariant.walk c.requires c.in-Found.is c.step-answer.ensures in
+    (record { kind = kind_of node.kind; next = node.next })) =
+    answer-found c.loop-at.invariant.walk c.requires c.in-Found.is c.step-answer.ensures in
     let w = c.loop-at.invariant in
     (omega (arith, w.walk.high, w.room, found.more, c.arity.ensures), walk-fits w.walk)
 
 pub overflow_add-depth : goal.overflow_add-depth
 overflow_add-depth c =
     let found : (let a = c.args in let node = c.in-Found.node in Stepped a.flags a.bytes.now c.loop-at.depth c.loop-at.at c.loop-at.count
-    (record { kind = kind_of node.kind; next = node.next })) = answer-found c.loop-at.invariant.walk c.requires c.in-Found.is c.step-answer.ensures in
+    (record { kind = kind_of node.kind; next = node.next })) =
+    answer-found c.loop-at.invariant.walk c.requires c.in-Found.is c.step-answer.ensures in
     let w = c.loop-at.invariant in
     omega (arith, w.walk.high, found.more)
 
 pub overflow_add-count : goal.overflow_add-count
 overflow_add-count c =
     let found : (let a = c.args in let node = c.in-Found.node in Stepped a.flags a.bytes.now c.loop-at.depth c.loop-at.at c.loop-at.count
-    (record { kind = kind_of node.kind; next = node.next })) = answer-found c.loop-at.invariant.walk c.requires c.in-Found.is c.step-answer.ensures in
+    (record { kind = kind_of node.kind; next = node.next })) =
+    answer-found c.loop-at.invariant.walk c.requires c.in-Found.is c.step-answer.ensures in
     omega (arith, found.more)
 
 pub loop-at-smaller : goal.loop-at-smaller
 loop-at-smaller c =
     let found : (let a = c.args in let node = c.in-Found.node in Stepped a.flags a.bytes.now c.loop-at.depth c.loop-at.at c.loop-at.count
-    (record { kind = kind_of node.kind; next = node.next })) = answer-found c.loop-at.invariant.walk c.requires c.in-Found.is c.step-answer.ensures in
+    (record { kind = kind_of node.kind; next = node.next })) =
+    answer-found c.loop-at.invariant.walk c.requires c.in-Found.is c.step-answer.ensures in
     omega (arith, found.stands.after, c.loop-at-test.true)
 
 pub loop-at-preserved : goal.loop-at-preserved
 loop-at-preserved c =
     let found : (let a = c.args in let node = c.in-Found.node in Stepped a.flags a.bytes.now c.loop-at.depth c.loop-at.at c.loop-at.count
-    (record { kind = kind_of node.kind; next = node.next })) = answer-found c.loop-at.invariant.walk c.requires c.in-Found.is c.step-answer.ensures in
+    (record { kind = kind_of node.kind; next = node.next })) =
+    answer-found c.loop-at.invariant.walk c.requires c.in-Found.is c.step-answer.ensures in
     let arity = c.arity in
     rw c.keep.ensures
     (finding-step c.loop-at.invariant found c.loop-at-test.true _
