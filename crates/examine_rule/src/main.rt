@@ -1,5 +1,6 @@
 // The examining command: from standard input to standard output. It rests on `examining`.
 #![tactic(auto)]
+
 use std::io;
 
 fn main(rt: HostRuntime) -> io::Result<()> {

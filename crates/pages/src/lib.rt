@@ -1,5 +1,6 @@
 // A page written to a writer, for the programs whose output is one. It rests on `text` and on std's writers.
 #![tactic(auto)]
+
 ghost use Rattle.std.specs.Prelude.{◌≡◌, ◌≤◌, OnOk, length, take};
 ghost use Rattle.std.specs.Io.KnownBytes.{Appends};
 ghost use Rattle.text.specs.Page.{page_bytes};

@@ -2,6 +2,7 @@
 // and the line that tells what was compared. It rests on std's files and printing, on fronts of files, on what a file's bytes
 // say, on the count and on the limit of records.
 #![tactic(auto)]
+
 pub mod file;
 pub mod line;
 pub mod named;

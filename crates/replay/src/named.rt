@@ -45,7 +45,11 @@ pub fn next(names: &[u8], start: usize) -> usize
 
 // Opens the file that the line from `start` on names, and writes its name. A file that cannot be opened is complained of
 // and not named, so that it shows as a difference.
-pub fn open<R: Files + Print + Eprint>(rt: &R, names: &[u8], start: usize) -> io::Result<Opened<R::File>>
+pub fn open<R: Files + Print + Eprint>(
+    rt: &R,
+    names: &[u8],
+    start: usize,
+) -> io::Result<Opened<R::File>>
     requires { start ≤ length names.now }
 {
     let end = line_end(names, start);

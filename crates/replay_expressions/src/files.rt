@@ -40,7 +40,12 @@ fn head_size(item: Item) -> usize {
     }
 }
 
-fn is_same_form<R: Read>(file: &mut R, head: &[u8], flags: usize, lacking: usize) -> io::Result<bool> {
+fn is_same_form<R: Read>(
+    file: &mut R,
+    head: &[u8],
+    flags: usize,
+    lacking: usize,
+) -> io::Result<bool> {
     listings::is_same_form(file, head, Asked { flags, lacking })
 }
 

@@ -4,6 +4,7 @@
 // rests on `recorded_expressions`, `recorded_readings`, `recorded_stars` and `recorded_listings`, which compare; the formats
 // of the files are in data/README.md.
 #![tactic(auto)]
+
 mod cases;
 mod choices;
 mod costs;
@@ -24,11 +25,26 @@ fn main(rt: HostRuntime) -> io::Result<()> {
     files::replay(&rt, b"listings.bin", b"forms", Item::Listing)?;
     files::replay(&rt, b"cases.bin", b"wrong numbers", Item::WrongNumber)?;
     files::replay(&rt, b"cases.bin", b"wrong results", Item::WrongResult)?;
-    files::replay(&rt, b"listings.bin", b"refusals of 16 flags", Item::WrongFlags)?;
-    files::replay(&rt, b"listings.bin", b"refusals of enough room", Item::WrongRoom)?;
+    files::replay(
+        &rt,
+        b"listings.bin",
+        b"refusals of 16 flags",
+        Item::WrongFlags,
+    )?;
+    files::replay(
+        &rt,
+        b"listings.bin",
+        b"refusals of enough room",
+        Item::WrongRoom,
+    )?;
     files::replay(&rt, b"wrong_cases.bin", b"cases", Item::Case)?;
     files::replay(&rt, b"wrong_readings.bin", b"readings", Item::Reading)?;
-    files::replay(&rt, b"wrong_stars.bin", b"evaluations for 64 stars", Item::Stars)?;
+    files::replay(
+        &rt,
+        b"wrong_stars.bin",
+        b"evaluations for 64 stars",
+        Item::Stars,
+    )?;
     files::replay(&rt, b"wrong_costs.bin", b"expressions", Item::Costs)?;
     files::replay(&rt, b"wrong_choices.bin", b"choices", Item::Choice)?;
     files::replay(&rt, b"wrong_listings.bin", b"forms", Item::Listing)

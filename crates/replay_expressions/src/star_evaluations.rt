@@ -7,7 +7,12 @@ use std::io;
 use std::io::Read;
 
 // The rest of an evaluation: its words and its expression, each as long as the slice that takes it.
-fn is_same_rest<R: Read>(file: &mut R, head: &[u8], words: &mut [u8], bytes: &mut [u8]) -> io::Result<bool> {
+fn is_same_rest<R: Read>(
+    file: &mut R,
+    head: &[u8],
+    words: &mut [u8],
+    bytes: &mut [u8],
+) -> io::Result<bool> {
     if !file::fills(file, words)? {
         return Ok(false);
     }

@@ -2,6 +2,7 @@
 // a line for each file says how many were compared and how many differ. The answers in the files named wrong differ on purpose, and the lines must
 // say so. It rests on `recorded_packages`, which compares; the formats of the files are in data/README.md.
 #![tactic(auto)]
+
 mod readings;
 mod writings;
 

@@ -10,7 +10,12 @@ use std::io::Read;
 use std::rt::Files;
 
 // The rest of a writing, each part as long as the slice that takes it.
-fn is_same_rest<R: Read>(file: &mut R, head: &[u8], expression: &mut [u8], after: &mut [u8]) -> io::Result<bool> {
+fn is_same_rest<R: Read>(
+    file: &mut R,
+    head: &[u8],
+    expression: &mut [u8],
+    after: &mut [u8],
+) -> io::Result<bool> {
     if !file::fills(file, expression)? {
         return Ok(false);
     }

@@ -20,7 +20,12 @@ fn is_same_small<R: Read>(file: &mut R, flags: usize, number: u64) -> io::Result
 }
 
 // The tables of `flags` flags, of which there are `count`.
-fn small_tables<R: Read>(file: &mut R, flags: usize, count: u64, before: Tally) -> io::Result<Tally> {
+fn small_tables<R: Read>(
+    file: &mut R,
+    flags: usize,
+    count: u64,
+    before: Tally,
+) -> io::Result<Tally> {
     let mut tally = before;
     let mut number = 0;
     while number < count {

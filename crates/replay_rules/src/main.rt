@@ -3,6 +3,7 @@
 // The answers in the files named wrong differ on purpose, and the lines must say so. It rests on `recorded_rules`, which
 // compares; the formats of the files are in data/README.md.
 #![tactic(auto)]
+
 mod files;
 mod one_rule;
 mod refusals;

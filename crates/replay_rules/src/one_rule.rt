@@ -11,7 +11,12 @@ use std::io;
 use std::io::Read;
 
 // Whether the library answers for the table with these bits as recorded.
-pub fn is_same<R: Read>(file: &mut R, flags: usize, bits: &[u8], answer: &[u8]) -> io::Result<bool> {
+pub fn is_same<R: Read>(
+    file: &mut R,
+    flags: usize,
+    bits: &[u8],
+    answer: &[u8],
+) -> io::Result<bool> {
     let mut left = [PATTERN; BYTE_LIMIT];
     let length = records::read(file, pair_at(answer, 4) as usize, &mut left)?;
     let settings = sizes::entries(flags);
