@@ -1,5 +1,8 @@
 // A recorded file, from its opening to the line of what was compared. It rests on std's files and on fronts of files.
 // A file that cannot be opened reads as an empty one, so that its line shows that nothing was compared.
+ghost use Rattle.std.specs.Prelude.{IfOk, IsTrue};
+ghost use Rattle.std.specs.Io.KnownBytes.{Consumes, IsAtEnd};
+
 use crate::line;
 use comparison::tally::Tally;
 use std::io::Read;
@@ -43,7 +46,10 @@ pub fn open<R: Files + Eprint>(rt: &R, path: &[u8]) -> Opened<R::File> {
 }
 
 // Whether the file's next bytes fill the buffer.
-pub fn fills<R: Read>(file: &mut R, buffer: &mut [u8]) -> io::Result<bool> {
+pub fn fills<R: Read>(file: &mut R, buffer: &mut [u8]) -> io::Result<bool>
+    ensures filled { IfOk result (λ b. IsTrue b → Consumes (R.remaining file.old) (R.remaining file.new) buffer.new) }
+    ensures short { IfOk result (λ b. ¬ (IsTrue b) → IsAtEnd (R.remaining file.new)) }
+{
     Ok(fronts::read(file, buffer)? == buffer.len())
 }
 
