@@ -3,11 +3,18 @@
 // (`page-front` of `examination_text`): the two lines have at most 4095. It rests on `examination_text`, `fronts` and `pages`.
 #![tactic(auto)]
 
+ghost use Rattle.std.specs.Prelude.{OnOk, IfSome};
+ghost use Rattle.std.specs.Io.KnownBytes.{Appends};
+ghost use Rattle.examination_text.specs.Input.{verdict_page};
+
 use std::io;
 use std::io::{Read, Write};
 
 // Everything that can be read from `input` is the two lines, and their verdict goes to `output`.
-pub fn run<R: Read, W: Write>(input: &mut R, output: &mut W) -> io::Result<()> {
+pub fn run<R: Read, W: Write>(input: &mut R, output: &mut W) -> io::Result<()>
+    ensures { OnOk result (IfSome (R.remaining input.old)
+        (λ s. Appends (W.contents output.old) (W.contents output.new) (verdict_page s))) }
+{
     let mut lines = [0u8; 4096];
     let length = fronts::read(input, &mut lines)?;
     let page = examination_text::examine_rule(&lines[..length]);
