@@ -3,11 +3,18 @@
 // most 65. It rests on `rule_text`, `fronts` and `pages`.
 #![tactic(auto)]
 
+ghost use Rattle.std.specs.Prelude.{OnOk, IfSome};
+ghost use Rattle.std.specs.Io.KnownBytes.{Appends};
+ghost use Rattle.rules.specs.Text.{printed};
+
 use std::io;
 use std::io::{Read, Write};
 
 // Everything that can be read from `input` is one line, and its answer goes to `output`.
-pub fn run<R: Read, W: Write>(input: &mut R, output: &mut W) -> io::Result<()> {
+pub fn run<R: Read, W: Write>(input: &mut R, output: &mut W) -> io::Result<()>
+    ensures { OnOk result (IfSome (R.remaining input.old)
+        (λ s. Appends (W.contents output.old) (W.contents output.new) (printed s))) }
+{
     let mut line = [0u8; 66];
     let length = fronts::read(input, &mut line)?;
     let page = rule_text::print_rule(&line[..length]);
