@@ -1,8 +1,8 @@
 // The examining command: from standard input to standard output. It rests on `examining`.
 #![tactic(auto)]
 
-use libc::{STDIN_FILENO, STDOUT_FILENO};
+use std::io;
 
-fn main() {
-    examining::run(STDIN_FILENO, STDOUT_FILENO);
+fn main(rt: HostRuntime) -> io::Result<()> {
+    examining::run(&mut rt.stdin(), &mut rt.stdout())
 }

@@ -1,8 +1,8 @@
 // The printing program: from standard input to standard output. It rests on `printing`.
 #![tactic(auto)]
 
-use libc::{STDIN_FILENO, STDOUT_FILENO};
+use std::io;
 
-fn main() {
-    printing::run(STDIN_FILENO, STDOUT_FILENO);
+fn main(rt: HostRuntime) -> io::Result<()> {
+    printing::run(&mut rt.stdin(), &mut rt.stdout())
 }

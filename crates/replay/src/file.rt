@@ -1,23 +1,67 @@
-// A recorded file, from its opening to the line of what was compared. It rests on io and os.
+// A recorded file, from its opening to the line of what was compared. It rests on std's files and on fronts of files.
 // A file that cannot be opened reads as an empty one, so that its line shows that nothing was compared.
+ghost use Rattle.std.specs.Prelude.{IfOk, IsTrue};
+ghost use Rattle.std.specs.Io.KnownBytes.{Consumes, IsAtEnd};
+
 use crate::line;
 use comparison::tally::Tally;
+use std::io::Read;
+use std::rt::Files;
+use std::{fs, io};
 
-pub fn open(path: &[u8]) -> i32 {
-    let fd = os::open_read(path);
-    if fd < 0 {
-        os::fail(path);
+// A file that was opened, or the empty one that stands for it.
+#[derive(Drop)]
+pub struct Opened<F> {
+    file: Option<F>,
+}
+
+impl<F> Opened<F> {
+    pub fn is_open(&self) -> bool {
+        self.file.is_some()
     }
-    fd
+}
+
+impl<F: Read> Read for Opened<F> {
+    fn read(&mut self, buf: &mut [u8]) -> io::Result<usize> {
+        match &mut self.file {
+            Some(file) => file.read(buf),
+            None => Ok(0),
+        }
+    }
+}
+
+// A file that cannot be opened is complained of on standard error, where a complaint that cannot be written is lost.
+pub fn open<R: Files + Eprint>(rt: &R, path: &[u8]) -> Opened<R::File> {
+    let Ok(name) = str::from_utf8(path) else {
+        let _ = eprintln!(rt; "the name of a file is no text");
+        return Opened { file: None };
+    };
+    match fs::open(rt, name) {
+        Ok(file) => Opened { file: Some(file) },
+        Err(e) => {
+            let _ = eprintln!(rt; "{name}: {e}");
+            Opened { file: None }
+        }
+    }
 }
 
 // Whether the file's next bytes fill the buffer.
-pub fn fills(fd: i32, buffer: &mut [u8]) -> bool {
-    io::read_full(fd, buffer) == buffer.len()
+pub fn fills<R: Read>(file: &mut R, buffer: &mut [u8]) -> io::Result<bool>
+    ensures filled { IfOk result (λ b. IsTrue b → Consumes (R.remaining file.old) (R.remaining file.new) buffer.new) }
+    ensures short { IfOk result (λ b. ¬ (IsTrue b) → IsAtEnd (R.remaining file.new)) }
+{
+    Ok(fronts::read(file, buffer)? == buffer.len())
 }
 
 // `kind` names what was counted.
-pub fn close(fd: i32, path: &[u8], kind: &[u8], tally: Tally) {
-    line::print(path, kind, tally);
-    libc::close(fd);
+pub fn close<R: Print, F: Drop>(
+    rt: &R,
+    file: F,
+    path: &[u8],
+    kind: &[u8],
+    tally: Tally,
+) -> io::Result<()> {
+    line::print(rt, path, kind, tally)?;
+    drop(file);
+    Ok(())
 }

@@ -1,19 +1,20 @@
-// The line that tells what was compared. It rests on io.
+// The line that tells what was compared. It rests on std's printing.
 use comparison::tally::Tally;
+use std::io;
 
 // `kind` names what was counted.
-pub fn print(name: &[u8], kind: &[u8], tally: Tally) {
-    io::write_all(1, name);
-    io::write_all(1, b": ");
-    io::print_decimal(1, tally.compared);
-    io::write_all(1, b" ");
-    io::write_all(1, kind);
-    io::write_all(1, b", ");
-    io::print_decimal(1, tally.differences);
-    io::write_all(1, b" differences");
+pub fn print<R: Print>(rt: &R, name: &[u8], kind: &[u8], tally: Tally) -> io::Result<()> {
+    rt.write_all(name)?;
+    rt.write_all(b": ")?;
+    rt.print(tally.compared)?;
+    rt.write_all(b" ")?;
+    rt.write_all(kind)?;
+    rt.write_all(b", ")?;
+    rt.print(tally.differences)?;
+    rt.write_all(b" differences")?;
     if tally.differences != 0 {
-        io::write_all(1, b", the first is number ");
-        io::print_decimal(1, tally.first);
+        rt.write_all(b", the first is number ")?;
+        rt.print(tally.first)?;
     }
-    io::write_all(1, b"\n");
+    rt.write_all(b"\n")
 }

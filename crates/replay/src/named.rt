@@ -1,18 +1,19 @@
-// The files that data/names lists, a line each: the list read, and each file opened with its name written. It rests on io
-// and on the opening of a file.
+// The files that data/names lists, a line each: the list read, and each file opened with its name written. It rests on std's
+// printing and on the opening of a file.
 ghost use Rattle.std.specs.Prelude.{◌≤◌, ◌<◌, length};
-ghost use Rattle.io.specs.Counts.{IsPrefixLen};
+ghost use Rattle.std.specs.Io.{ReadsAtMost};
 
 use crate::file;
+use crate::file::Opened;
+use std::io;
+use std::rt::Files;
 
 // Reads the list and answers its length.
-pub fn list(names: &mut [u8]) -> usize
-    ensures { IsPrefixLen result names.new }
+pub fn list<R: Files + Eprint>(rt: &R, names: &mut [u8]) -> io::Result<usize>
+    ensures { ReadsAtMost result names.new }
 {
-    let fd = file::open(b"names");
-    let length = io::read_full(fd, names);
-    libc::close(fd);
-    length
+    let mut list = file::open(rt, b"names");
+    fronts::read(&mut list, names)
 }
 
 // The place of the first newline from `start` on, or the end.
@@ -44,16 +45,19 @@ pub fn next(names: &[u8], start: usize) -> usize
 
 // Opens the file that the line from `start` on names, and writes its name. A file that cannot be opened is complained of
 // and not named, so that it shows as a difference.
-pub fn open(names: &[u8], start: usize) -> i32
+pub fn open<R: Files + Print + Eprint>(
+    rt: &R,
+    names: &[u8],
+    start: usize,
+) -> io::Result<Opened<R::File>>
     requires { start ≤ length names.now }
 {
     let end = line_end(names, start);
     let path = &names[start..end];
-    let fd = file::open(path);
-    if fd < 0 {
-        return fd;
+    let opened = file::open(rt, path);
+    if opened.is_open() {
+        rt.write_all(path)?;
+        rt.write_all(b"\n")?;
     }
-    io::write_all(1, path);
-    io::write_all(1, b"\n");
-    fd
+    Ok(opened)
 }

@@ -3,6 +3,8 @@
 use crate::file;
 use recorded::numbers::byte_at;
 use rules::RECORD_LIMIT;
+use std::io;
+use std::io::Read;
 
 // The bytes of any expression: it has at most so many records, and a record has at most three bytes.
 pub const EXPRESSION_BYTES: usize = 3 * RECORD_LIMIT;
@@ -56,14 +58,14 @@ fn expand(codes: &[u8; CODE_BYTES], records: usize, out: &mut [u8]) -> usize {
 
 // Reads that many records of a file and answers the length of the expression in `out`: 0, which no expression has, where
 // the file ends before.
-pub fn read(fd: i32, records: usize, out: &mut [u8]) -> usize {
+pub fn read<R: Read>(file: &mut R, records: usize, out: &mut [u8]) -> io::Result<usize> {
     let mut codes = [0u8; CODE_BYTES];
     if records > RECORD_LIMIT {
-        return 0;
+        return Ok(0);
     }
     let size = (records + 1) / 2;
-    if !file::fills(fd, &mut codes[0..size]) {
-        return 0;
+    if !file::fills(file, &mut codes[0..size])? {
+        return Ok(0);
     }
-    expand(&codes, records, out)
+    Ok(expand(&codes, records, out))
 }

@@ -4,30 +4,32 @@ use recorded::numbers::{byte_at, pair_at};
 use recorded_expressions::choices::{chooses, compares};
 use replay::records;
 use replay::records::EXPRESSION_BYTES;
+use std::io;
+use std::io::Read;
 
 // The expressions after the head, of so many records, and which of the two is to be chosen.
-fn is_chosen(fd: i32, one: usize, other: usize, chosen: usize) -> bool {
+fn is_chosen<R: Read>(file: &mut R, one: usize, other: usize, chosen: usize) -> io::Result<bool> {
     let mut first = [0u8; EXPRESSION_BYTES];
     let mut second = [0u8; EXPRESSION_BYTES];
-    let length = records::read(fd, one, &mut first);
-    let rest = records::read(fd, other, &mut second);
+    let length = records::read(file, one, &mut first)?;
+    let rest = records::read(file, other, &mut second)?;
     if length > EXPRESSION_BYTES {
-        return false;
+        return Ok(false);
     }
     if rest > EXPRESSION_BYTES {
-        return false;
+        return Ok(false);
     }
-    chooses(&first[0..length], &second[0..rest], chosen)
+    Ok(chooses(&first[0..length], &second[0..rest], chosen))
 }
 
-pub fn is_same(fd: i32, head: &[u8]) -> bool {
+pub fn is_same<R: Read>(file: &mut R, head: &[u8]) -> io::Result<bool> {
     if !compares(head) {
-        return false;
+        return Ok(false);
     }
     let one = pair_at(head, 17) as usize;
     let other = pair_at(head, 19) as usize;
     if one == 0 {
-        return true;
+        return Ok(true);
     }
-    is_chosen(fd, one, other, 1 + (byte_at(head, 16) as usize))
+    is_chosen(file, one, other, 1 + (byte_at(head, 16) as usize))
 }

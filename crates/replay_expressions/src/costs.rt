@@ -3,12 +3,14 @@ use recorded::numbers::pair_at;
 use recorded_expressions::costs::agrees;
 use replay::records;
 use replay::records::EXPRESSION_BYTES;
+use std::io;
+use std::io::Read;
 
-pub fn is_same(fd: i32, head: &[u8]) -> bool {
+pub fn is_same<R: Read>(file: &mut R, head: &[u8]) -> io::Result<bool> {
     let mut bytes = [0u8; EXPRESSION_BYTES];
-    let length = records::read(fd, pair_at(head, 6) as usize, &mut bytes);
+    let length = records::read(file, pair_at(head, 6) as usize, &mut bytes)?;
     if length > EXPRESSION_BYTES {
-        return false;
+        return Ok(false);
     }
-    agrees(head, &bytes[0..length])
+    Ok(agrees(head, &bytes[0..length]))
 }

@@ -11,25 +11,41 @@ mod costs;
 mod files;
 mod listings;
 mod readings;
-mod stars;
+mod star_evaluations;
 
 use crate::files::Item;
+use std::io;
 
-fn main() {
-    files::replay(b"cases.bin", b"cases", Item::Case);
-    files::replay(b"readings.bin", b"readings", Item::Reading);
-    files::replay(b"stars.bin", b"evaluations for 64 stars", Item::Stars);
-    files::replay(b"costs.bin", b"expressions", Item::Costs);
-    files::replay(b"choices.bin", b"choices", Item::Choice);
-    files::replay(b"listings.bin", b"forms", Item::Listing);
-    files::replay(b"cases.bin", b"wrong numbers", Item::WrongNumber);
-    files::replay(b"cases.bin", b"wrong results", Item::WrongResult);
-    files::replay(b"listings.bin", b"refusals of 16 flags", Item::WrongFlags);
-    files::replay(b"listings.bin", b"refusals of enough room", Item::WrongRoom);
-    files::replay(b"wrong_cases.bin", b"cases", Item::Case);
-    files::replay(b"wrong_readings.bin", b"readings", Item::Reading);
-    files::replay(b"wrong_stars.bin", b"evaluations for 64 stars", Item::Stars);
-    files::replay(b"wrong_costs.bin", b"expressions", Item::Costs);
-    files::replay(b"wrong_choices.bin", b"choices", Item::Choice);
-    files::replay(b"wrong_listings.bin", b"forms", Item::Listing);
+fn main(rt: HostRuntime) -> io::Result<()> {
+    files::replay(&rt, b"cases.bin", b"cases", Item::Case)?;
+    files::replay(&rt, b"readings.bin", b"readings", Item::Reading)?;
+    files::replay(&rt, b"stars.bin", b"evaluations for 64 stars", Item::Stars)?;
+    files::replay(&rt, b"costs.bin", b"expressions", Item::Costs)?;
+    files::replay(&rt, b"choices.bin", b"choices", Item::Choice)?;
+    files::replay(&rt, b"listings.bin", b"forms", Item::Listing)?;
+    files::replay(&rt, b"cases.bin", b"wrong numbers", Item::WrongNumber)?;
+    files::replay(&rt, b"cases.bin", b"wrong results", Item::WrongResult)?;
+    files::replay(
+        &rt,
+        b"listings.bin",
+        b"refusals of 16 flags",
+        Item::WrongFlags,
+    )?;
+    files::replay(
+        &rt,
+        b"listings.bin",
+        b"refusals of enough room",
+        Item::WrongRoom,
+    )?;
+    files::replay(&rt, b"wrong_cases.bin", b"cases", Item::Case)?;
+    files::replay(&rt, b"wrong_readings.bin", b"readings", Item::Reading)?;
+    files::replay(
+        &rt,
+        b"wrong_stars.bin",
+        b"evaluations for 64 stars",
+        Item::Stars,
+    )?;
+    files::replay(&rt, b"wrong_costs.bin", b"expressions", Item::Costs)?;
+    files::replay(&rt, b"wrong_choices.bin", b"choices", Item::Choice)?;
+    files::replay(&rt, b"wrong_listings.bin", b"forms", Item::Listing)
 }

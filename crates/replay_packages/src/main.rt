@@ -6,13 +6,15 @@
 mod readings;
 mod writings;
 
-fn main() {
-    readings::replay(b"full_small.bin");
-    readings::replay(b"full_samples.bin");
-    readings::replay(b"cuts.bin");
-    readings::replay(b"changes.bin");
-    readings::replay(b"edges.bin");
-    writings::replay(b"writings.bin");
-    readings::replay(b"wrong_readings.bin");
-    writings::replay(b"wrong_writings.bin");
+use std::io;
+
+fn main(rt: HostRuntime) -> io::Result<()> {
+    readings::replay(&rt, b"full_small.bin")?;
+    readings::replay(&rt, b"full_samples.bin")?;
+    readings::replay(&rt, b"cuts.bin")?;
+    readings::replay(&rt, b"changes.bin")?;
+    readings::replay(&rt, b"edges.bin")?;
+    writings::replay(&rt, b"writings.bin")?;
+    readings::replay(&rt, b"wrong_readings.bin")?;
+    writings::replay(&rt, b"wrong_writings.bin")
 }

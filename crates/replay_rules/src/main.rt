@@ -8,10 +8,12 @@ mod files;
 mod one_rule;
 mod refusals;
 
-fn main() {
-    files::replay_small(b"small.bin");
-    files::replay_samples(b"samples.bin");
-    refusals::replay();
-    files::replay_small(b"wrong_small.bin");
-    files::replay_samples(b"wrong_samples.bin");
+use std::io;
+
+fn main(rt: HostRuntime) -> io::Result<()> {
+    files::replay_small(&rt, b"small.bin")?;
+    files::replay_samples(&rt, b"samples.bin")?;
+    refusals::replay(&rt)?;
+    files::replay_small(&rt, b"wrong_small.bin")?;
+    files::replay_samples(&rt, b"wrong_samples.bin")
 }

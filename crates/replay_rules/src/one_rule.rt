@@ -7,16 +7,23 @@ use recorded_rules::calls::PATTERN;
 use recorded_rules::one_rule::agrees;
 use replay::records;
 use rules::BYTE_LIMIT;
+use std::io;
+use std::io::Read;
 
 // Whether the library answers for the table with these bits as recorded.
-pub fn is_same(fd: i32, flags: usize, bits: &[u8], answer: &[u8]) -> bool {
+pub fn is_same<R: Read>(
+    file: &mut R,
+    flags: usize,
+    bits: &[u8],
+    answer: &[u8],
+) -> io::Result<bool> {
     let mut left = [PATTERN; BYTE_LIMIT];
-    let length = records::read(fd, pair_at(answer, 4) as usize, &mut left);
+    let length = records::read(file, pair_at(answer, 4) as usize, &mut left)?;
     let settings = sizes::entries(flags);
     if settings > 64 {
-        return false;
+        return Ok(false);
     }
     let mut table = [0u64; 64];
     set_table(&mut table, bits);
-    agrees(flags, &table[0..settings], answer, &left, length)
+    Ok(agrees(flags, &table[0..settings], answer, &left, length))
 }

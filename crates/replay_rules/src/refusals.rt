@@ -10,6 +10,7 @@ use recorded::slices::set_table;
 use recorded_rules::calls::{PATTERN, compiles_to};
 use replay::line;
 use rules::BYTE_LIMIT;
+use std::io;
 
 // The first `length` entries of the table whose bits are the digits of `table`, into a buffer of `room` bytes.
 fn refusal(flags: usize, table: u64, length: usize, room: usize, expected: Outcome) -> bool {
@@ -90,9 +91,9 @@ fn all(number: u64, place: usize) -> Tally {
     buffers(arguments(tally::none(), number, place), number, place)
 }
 
-pub fn replay() {
-    line::print(b"refusals", b"cases", all(0, 0));
-    line::print(b"wrong numbers of refusals", b"cases", all(1, 0));
-    line::print(b"wrong places of refusals", b"cases", all(0, 1));
-    line::print(b"refusals of good calls", b"cases", results());
+pub fn replay<R: Print>(rt: &R) -> io::Result<()> {
+    line::print(rt, b"refusals", b"cases", all(0, 0))?;
+    line::print(rt, b"wrong numbers of refusals", b"cases", all(1, 0))?;
+    line::print(rt, b"wrong places of refusals", b"cases", all(0, 1))?;
+    line::print(rt, b"refusals of good calls", b"cases", results())
 }

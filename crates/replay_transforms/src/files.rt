@@ -7,6 +7,9 @@ use recorded::numbers::{byte_at, low_byte};
 use recorded::sizes;
 use recorded_transforms::one_table::{Way, agrees};
 use replay::file;
+use std::io;
+use std::io::Read;
+use std::rt::Files;
 
 // How many entries the call must tell: words there, and entries back, so that the one call cannot stand for the other.
 fn told(way: Way, flags: usize) -> Outcome {
@@ -17,22 +20,22 @@ fn told(way: Way, flags: usize) -> Outcome {
 }
 
 // One table of small.bin, whose bits are the digits of `number` and whose coefficients are the next two bytes.
-fn is_same_small(
+fn is_same_small<R: Read>(
     way: Way,
-    fd: i32,
+    file: &mut R,
     flags: usize,
     number: u64,
     table: &mut [u64; 65536],
     words: &mut [u64; 1027],
     entries: &mut [u64; 65539],
     left: &mut [u64; 65539],
-) -> bool {
+) -> io::Result<bool> {
     let bits = [low_byte(number), low_byte(number / 256)];
     let mut recorded = [0u8; 2];
-    if !file::fills(fd, &mut recorded) {
-        return false;
+    if !file::fills(file, &mut recorded)? {
+        return Ok(false);
     }
-    agrees(
+    Ok(agrees(
         way,
         flags,
         &bits,
@@ -42,13 +45,13 @@ fn is_same_small(
         entries,
         left,
         told(way, flags),
-    )
+    ))
 }
 
 // The tables of `flags` flags, of which there are `count`.
-fn small_tables(
+fn small_tables<R: Read>(
     way: Way,
-    fd: i32,
+    file: &mut R,
     flags: usize,
     count: u64,
     before: Tally,
@@ -56,20 +59,20 @@ fn small_tables(
     words: &mut [u64; 1027],
     entries: &mut [u64; 65539],
     left: &mut [u64; 65539],
-) -> Tally {
+) -> io::Result<Tally> {
     let mut tally = before;
     let mut number = 0;
     while number < count {
         tally = tally::counted(
             tally,
-            is_same_small(way, fd, flags, number, table, words, entries, left),
+            is_same_small(way, file, flags, number, table, words, entries, left)?,
         );
         number += 1;
     }
-    tally
+    Ok(tally)
 }
 
-fn all_small_tables(way: Way, fd: i32) -> Tally {
+fn all_small_tables<R: Read>(way: Way, file: &mut R) -> io::Result<Tally> {
     let mut table = [0u64; 65536];
     let mut words = [0u64; 1027];
     let mut entries = [0u64; 65539];
@@ -77,7 +80,7 @@ fn all_small_tables(way: Way, fd: i32) -> Tally {
     let mut tally = tally::none();
     tally = small_tables(
         way,
-        fd,
+        file,
         0,
         2,
         tally,
@@ -85,10 +88,10 @@ fn all_small_tables(way: Way, fd: i32) -> Tally {
         &mut words,
         &mut entries,
         &mut left,
-    );
+    )?;
     tally = small_tables(
         way,
-        fd,
+        file,
         1,
         4,
         tally,
@@ -96,10 +99,10 @@ fn all_small_tables(way: Way, fd: i32) -> Tally {
         &mut words,
         &mut entries,
         &mut left,
-    );
+    )?;
     tally = small_tables(
         way,
-        fd,
+        file,
         2,
         16,
         tally,
@@ -107,10 +110,10 @@ fn all_small_tables(way: Way, fd: i32) -> Tally {
         &mut words,
         &mut entries,
         &mut left,
-    );
+    )?;
     tally = small_tables(
         way,
-        fd,
+        file,
         3,
         256,
         tally,
@@ -118,10 +121,10 @@ fn all_small_tables(way: Way, fd: i32) -> Tally {
         &mut words,
         &mut entries,
         &mut left,
-    );
+    )?;
     small_tables(
         way,
-        fd,
+        file,
         4,
         65536,
         tally,
@@ -132,15 +135,21 @@ fn all_small_tables(way: Way, fd: i32) -> Tally {
     )
 }
 
-pub fn replay_small(path: &[u8], kind: &[u8], way: Way) {
-    let fd = file::open(path);
-    file::close(fd, path, kind, all_small_tables(way, fd));
+pub fn replay_small<R: Files + Print + Eprint>(
+    rt: &R,
+    path: &[u8],
+    kind: &[u8],
+    way: Way,
+) -> io::Result<()> {
+    let mut opened = file::open(rt, path);
+    let tally = all_small_tables(way, &mut opened)?;
+    file::close(rt, opened, path, kind, tally)
 }
 
 // The rest of a sample: the table's bits and the coefficients, each as long as the slice that takes them.
-fn is_same_rest(
+fn is_same_rest<R: Read>(
     way: Way,
-    fd: i32,
+    file: &mut R,
     flags: usize,
     bits: &mut [u8],
     recorded: &mut [u8],
@@ -148,14 +157,14 @@ fn is_same_rest(
     words: &mut [u64; 1027],
     entries: &mut [u64; 65539],
     left: &mut [u64; 65539],
-) -> bool {
-    if !file::fills(fd, bits) {
-        return false;
+) -> io::Result<bool> {
+    if !file::fills(file, bits)? {
+        return Ok(false);
     }
-    if !file::fills(fd, recorded) {
-        return false;
+    if !file::fills(file, recorded)? {
+        return Ok(false);
     }
-    agrees(
+    Ok(agrees(
         way,
         flags,
         bits,
@@ -165,29 +174,29 @@ fn is_same_rest(
         entries,
         left,
         told(way, flags),
-    )
+    ))
 }
 
 // A sample's head is its flag count.
-fn is_same_sample(
+fn is_same_sample<R: Read>(
     way: Way,
-    fd: i32,
+    file: &mut R,
     head: &[u8],
     table: &mut [u64; 65536],
     words: &mut [u64; 1027],
     entries: &mut [u64; 65539],
     left: &mut [u64; 65539],
-) -> bool {
+) -> io::Result<bool> {
     let flags = byte_at(head, 0) as usize;
     let size = sizes::bytes(flags);
     if size > 8192 {
-        return false;
+        return Ok(false);
     }
     let mut bits = [0u8; 8192];
     let mut recorded = [0u8; 8192];
     is_same_rest(
         way,
-        fd,
+        file,
         flags,
         &mut bits[0..size],
         &mut recorded[0..size],
@@ -199,7 +208,7 @@ fn is_same_sample(
 }
 
 // A proved loop has to end, and nothing says that a file does: the turns are more than any recorded file has samples.
-fn all_samples(way: Way, fd: i32) -> Tally {
+fn all_samples<R: Read>(way: Way, file: &mut R) -> io::Result<Tally> {
     let mut table = [0u64; 65536];
     let mut words = [0u64; 1027];
     let mut entries = [0u64; 65539];
@@ -208,27 +217,33 @@ fn all_samples(way: Way, fd: i32) -> Tally {
     let mut head = [0u8; 1];
     let mut turns: u64 = 1000000;
     while turns > 0 {
-        if !file::fills(fd, &mut head) {
-            return tally;
+        if !file::fills(file, &mut head)? {
+            return Ok(tally);
         }
         tally = tally::counted(
             tally,
             is_same_sample(
                 way,
-                fd,
+                file,
                 &head,
                 &mut table,
                 &mut words,
                 &mut entries,
                 &mut left,
-            ),
+            )?,
         );
         turns -= 1;
     }
-    tally
+    Ok(tally)
 }
 
-pub fn replay_samples(path: &[u8], kind: &[u8], way: Way) {
-    let fd = file::open(path);
-    file::close(fd, path, kind, all_samples(way, fd));
+pub fn replay_samples<R: Files + Print + Eprint>(
+    rt: &R,
+    path: &[u8],
+    kind: &[u8],
+    way: Way,
+) -> io::Result<()> {
+    let mut opened = file::open(rt, path);
+    let tally = all_samples(way, &mut opened)?;
+    file::close(rt, opened, path, kind, tally)
 }

@@ -8,18 +8,20 @@ mod files;
 mod refusals;
 
 use recorded_transforms::one_table::Way;
+use std::io;
+use std::rt::Files;
 
-fn replay(kind: &[u8], way: Way) {
-    files::replay_small(b"small.bin", kind, way);
-    files::replay_samples(b"samples.bin", kind, way);
-    files::replay_samples(b"sympy.bin", kind, way);
-    files::replay_samples(b"printed.bin", kind, way);
-    files::replay_small(b"wrong_small.bin", kind, way);
-    files::replay_samples(b"wrong_samples.bin", kind, way);
+fn replay<R: Files + Print + Eprint>(rt: &R, kind: &[u8], way: Way) -> io::Result<()> {
+    files::replay_small(rt, b"small.bin", kind, way)?;
+    files::replay_samples(rt, b"samples.bin", kind, way)?;
+    files::replay_samples(rt, b"sympy.bin", kind, way)?;
+    files::replay_samples(rt, b"printed.bin", kind, way)?;
+    files::replay_small(rt, b"wrong_small.bin", kind, way)?;
+    files::replay_samples(rt, b"wrong_samples.bin", kind, way)
 }
 
-fn main() {
-    replay(b"tables", Way::There);
-    replay(b"tables back", Way::Back);
-    refusals::replay();
+fn main(rt: HostRuntime) -> io::Result<()> {
+    replay(&rt, b"tables", Way::There)?;
+    replay(&rt, b"tables back", Way::Back)?;
+    refusals::replay(&rt)
 }

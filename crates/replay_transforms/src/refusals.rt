@@ -7,6 +7,7 @@ use comparison::tally;
 use comparison::tally::Tally;
 use recorded_transforms::calls::{PATTERN, goes_back_to, transforms_to};
 use replay::line;
+use std::io;
 
 // The transform of a table of `length` entries into a buffer of `room` words.
 fn transform(length: usize, room: usize, flags: usize, expected: Outcome) -> bool {
@@ -108,9 +109,9 @@ fn all(number: u64, place: usize) -> Tally {
     ways_back(transforms(tally::none(), number, place), number, place)
 }
 
-pub fn replay() {
-    line::print(b"refusals", b"cases", all(0, 0));
-    line::print(b"wrong numbers of refusals", b"cases", all(1, 0));
-    line::print(b"wrong places of refusals", b"cases", all(0, 1));
-    line::print(b"refusals of good calls", b"cases", results());
+pub fn replay<R: Print>(rt: &R) -> io::Result<()> {
+    line::print(rt, b"refusals", b"cases", all(0, 0))?;
+    line::print(rt, b"wrong numbers of refusals", b"cases", all(1, 0))?;
+    line::print(rt, b"wrong places of refusals", b"cases", all(0, 1))?;
+    line::print(rt, b"refusals of good calls", b"cases", results())
 }
