@@ -1,8 +1,8 @@
 -- One recorded rule on paper.
 --   table_raw_costing n t   == raw costing of what the transform of the table t leaves in a buffer of one word, which held 0
---   agree n t a l k   == of the table t of n flags the compiler gives the three numbers that the bytes a have and k bytes, and leaves byte_limit bytes
---                        that held the pattern as l; the examiner accepts the first k bytes of l at that cost; and raw costing of what the transform
---                        makes of t gives the raw cost
+--   agree n t a l k         == of the table t of n flags the compiler gives the three numbers that the bytes a have and k bytes, and leaves
+--                              byte_limit bytes that held the pattern as l; the examiner accepts the first k bytes of l at that cost; and raw
+--                              costing of what the transform makes of t gives the raw cost
 use Rattle.std.specs.Prelude.{Bool, ◌&&◌, List, [], ◌∷◌, ℕ, leb, length, take, replicate}
 use Rattle.rules.specs.Calls.{compile, examine, transform, raw_costing}
 use Rattle.rules.specs.Limits.{byte_limit}

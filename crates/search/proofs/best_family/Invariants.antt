@@ -5,7 +5,6 @@ use mathlib.Core.Path.{◌≡◌}
 use Prim.Native.Nat.{ℕ, ◌^◌, ◌<◌}
 use Rattle.bits.specs.Word.{places}
 use Rattle.rules.specs.Cleanup.{is_partial}
-use Rattle.form.specs.Masks.{masks}
 use Rattle.search.specs.Inner.{chosen}
 use Rattle.search.proofs.best_family.Given as goal
 

@@ -16,7 +16,10 @@ slice_bounds-asked-end-then-at-bytes c = sym (length-take-le _ _ (search rules))
 
 pub returns-then-at-bytes : goal.returns-then-at-bytes
 returns-then-at-bytes c =
-    record { answer = agrees-whole _ _ c.half_at-handed.ensures.0 c.if-handed-bytes.false c.half_at-at.ensures.0 c.if-at-bytes.true c.asked.ensures; lent = refl }
+    record {
+      answer = agrees-whole _ _ c.half_at-handed.ensures.0 c.if-handed-bytes.false c.half_at-at.ensures.0 c.if-at-bytes.true c.asked.ensures;
+      lent = refl;
+    }
 
 pub slice_bounds-asked-end-3 : goal.slice_bounds-asked-end-3
 slice_bounds-asked-end-3 c = sym (length-take-le _ _ (simp length-set (search rules)))
