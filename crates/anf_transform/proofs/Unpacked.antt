@@ -18,7 +18,7 @@ use Rattle.rules.specs.Coefficient.{word_count, packed}
 use Rattle.bits.proofs.Tabulated.{length-map-upto, get_or-map-upto, map-upto-of}
 use Rattle.laws.proofs.transform.Packed.{word_count-room, packed-at}
 use Rattle.packed_anf.proofs.Room.{Room, room}
-use Rattle.bits.proofs.Stores.{sets-before, get_d_sets_before}
+use Rattle.bits.proofs.Stores.{sets-before, get_or-sets_before}
 
 module _ (n : ℕ) (l : List ℕ) where
   -- k entries from place a on
@@ -38,7 +38,7 @@ module _ (n : ℕ) (l : List ℕ) where
   unpacked-all = let z : 2 ^ n - 0 ≡ 2 ^ n = omega arith in ap (λ (k : ℕ). sets l 0 (entries 0 k)) z
 
   pub get_or-unpacked : (i k : ℕ) → k < 64 * i → get_or (unpacked i) k 0 ≡ get_or l k 0
-  get_or-unpacked i k h = get_d_sets_before (entries (64 * i) (2 ^ n - 64 * i)) l (64 * i) k 0 h
+  get_or-unpacked i k h = get_or-sets_before (entries (64 * i) (2 ^ n - 64 * i)) l (64 * i) k 0 h
 
   -- the bits of word i
   abbrev bits : ℕ → ℕ → List ℕ

@@ -21,7 +21,7 @@ use Rattle.bits.specs.Word.{word}
 use Rattle.bits.proofs.Bit.{bit-above, bit-mod, bit-mod-high}
 use Rattle.bits.proofs.Word.{bit-word-keep, word-keep-lt, word-ext}
 use Rattle.rules.specs.Coefficient.{word_count, packed, word_of, words}
-use Rattle.laws.proofs.transform.Packed.{word_count-small, word_count-room, packed-at, get_d_words, words_of}
+use Rattle.laws.proofs.transform.Packed.{word_count-small, word_count-room, packed-at, get_or-words, words_of}
 use Rattle.packed_anf.proofs.Room.{Room, room, word_count-full}
 
 -- words with more behind them, and the first words of more
@@ -60,7 +60,7 @@ module _ (n i : ℕ) (h : i < word_count n) where
   part-word f =
       word-ext 64 w (λ j. ltb (64 * i + j) (2 ^ n) && f (64 * i + j)) (lt_of_lt_of_le small (pow_mono (min-le_right (2 ^ n) 64)))
       (λ j l. at j l (ltb j k) refl)
-      ∙ sym (get_d_words n f i h)
+      ∙ sym (get_or-words n f i h)
     where
       k : ℕ
       k = min (2 ^ n) 64

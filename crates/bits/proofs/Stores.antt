@@ -4,7 +4,7 @@
 --   sets-after           == a run past the first entry is one of the rest
 --   take-sets-front      == the front holds what was stored there
 --   sets-before          == a run before a run
---   get_d_sets_before     == what stands before a run
+--   get_or-sets_before     == what stands before a run
 --   sets-front           == a run from the front, and the rest
 --   sets_over            == a run over a front that it covers
 --   front-more, front-all == the front of a list, one store further, and whole
@@ -45,10 +45,10 @@ module _ {A : Type 0} where
       (ap (λ (k : ℕ). set (sets l k vs) a u) e ∙ set_before vs l (suc a + length us) a u (omega arith))
       ∙ sets-before us vs (set l a u) (suc a)
 
-  pub get_d_sets_before : (vs l : List A) (b k : ℕ) (d : A) → k < b → get_or (sets l b vs) k d ≡ get_or l k d
-  get_d_sets_before [] l b k d h = refl
-  get_d_sets_before (v ∷ vs) l b k d h =
-      get_d_sets_before vs (set l b v) (suc b) k d (omega arith) ∙ get_or-set_other l b k v d (λ e. omega arith)
+  pub get_or-sets_before : (vs l : List A) (b k : ℕ) (d : A) → k < b → get_or (sets l b vs) k d ≡ get_or l k d
+  get_or-sets_before [] l b k d h = refl
+  get_or-sets_before (v ∷ vs) l b k d h =
+      get_or-sets_before vs (set l b v) (suc b) k d (omega arith) ∙ get_or-set_other l b k v d (λ e. omega arith)
 
   pub sets-front : (vs l : List A) → length vs ≤ length l → sets l 0 vs ≡ vs ++ drop (length vs) l
   sets-front vs l h = sets-eq vs l 0 (omega arith) ∙ ap (λ (k : ℕ). vs ++ drop k l) (zero-add (length vs))

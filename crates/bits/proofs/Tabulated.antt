@@ -12,17 +12,17 @@ use lib.Seq.{ext_get_or}
 use Rattle.bits.specs.Range.{upto}
 use Rattle.bits.proofs.Range.{length_from, get_or-upto, upto-suc}
 
-get_d_map : (g : ℕ → ℕ) (l : List ℕ) (i : ℕ) → i < length l → get_or (map g l) i 0 ≡ g (get_or l i 0)
-get_d_map g [] i h = absurd (omega arith)
-get_d_map g (x ∷ l) zero h = refl
-get_d_map g (x ∷ l) (suc i) h = get_d_map g l i (omega arith)
+get_or-map : (g : ℕ → ℕ) (l : List ℕ) (i : ℕ) → i < length l → get_or (map g l) i 0 ≡ g (get_or l i 0)
+get_or-map g [] i h = absurd (omega arith)
+get_or-map g (x ∷ l) zero h = refl
+get_or-map g (x ∷ l) (suc i) h = get_or-map g l i (omega arith)
 
 module _ (k : ℕ) (g : ℕ → ℕ) where
   pub length-map-upto : length (map g (upto k)) ≡ k
   length-map-upto = length-map (upto k) g ∙ length_from 0 k
 
   pub get_or-map-upto : (i : ℕ) → i < k → get_or (map g (upto k)) i 0 ≡ g i
-  get_or-map-upto i h = get_d_map g (upto k) i (omega (arith, length_from 0 k)) ∙ ap g (get_or-upto k i 0 h)
+  get_or-map-upto i h = get_or-map g (upto k) i (omega (arith, length_from 0 k)) ∙ ap g (get_or-upto k i 0 h)
 
 pub map-upto-of : (k : ℕ) (g : ℕ → ℕ) (l : List ℕ) → length l ≡ k → ((i : ℕ) → i < k → get_or l i 0 ≡ g i) → l ≡ map g (upto k)
 map-upto-of k g l e h =

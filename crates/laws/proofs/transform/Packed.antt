@@ -2,7 +2,7 @@
 -- It rests on the laws of words and of ranges (bits, Word and Range).
 --   word_count-small, word_count-large, word_count-room, word_count-pos == the number of words
 --   bit-word_of, packed-at                               == one word's bits, and the coefficients that one word holds
---   length-words, get_d_words                            == the list of words, entry by entry
+--   length-words, get_or-words                            == the list of words, entry by entry
 --   packed-words, packed-words-above, packed-words-room == the coefficients that the words hold: f below 2^n, none above
 --   stray-words, not-stray                              == written words have no stray bit; what it means to have none
 --   packed-injective                                    == words that hold the same coefficients are the same
@@ -62,9 +62,9 @@ module _ (n : ℕ) (f : ℕ → Bool) where
   unfolding words
   length-words = length-map-upto (word_count n) (word_of (λ m. ltb m (2 ^ n) && f m))
 
-  pub get_d_words : (i : ℕ) → i < word_count n → get_or (words n f) i 0 ≡ word_of (λ m. ltb m (2 ^ n) && f m) i
+  pub get_or-words : (i : ℕ) → i < word_count n → get_or (words n f) i 0 ≡ word_of (λ m. ltb m (2 ^ n) && f m) i
   unfolding words
-  get_d_words i h = get_or-map-upto (word_count n) (word_of (λ m. ltb m (2 ^ n) && f m)) i h
+  get_or-words i h = get_or-map-upto (word_count n) (word_of (λ m. ltb m (2 ^ n) && f m)) i h
 
   pub packed-words-room : (m : ℕ) → m < 64 * word_count n → packed (words n f) m ≡ (ltb m (2 ^ n) && f m)
   packed-words-room m h =
@@ -72,7 +72,7 @@ module _ (n : ℕ) (f : ℕ → Bool) where
       let e : m ≡ 64 * (m / 64) + m % 64 = omega arith in
       let l : m % 64 < 64 = omega arith in
       ap (packed (words n f)) e ∙ packed-at (words n f) (m / 64) (m % 64) l
-      ∙ ap (λ (w : ℕ). bit w (m % 64)) (get_d_words (m / 64) (omega arith))
+      ∙ ap (λ (w : ℕ). bit w (m % 64)) (get_or-words (m / 64) (omega arith))
       ∙ bit-word_of g (m / 64) (m % 64) l ∙ ap g (sym e)
 
   pub packed-words : (m : ℕ) → m < 2 ^ n → packed (words n f) m ≡ f m
