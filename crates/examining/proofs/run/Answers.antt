@@ -5,4 +5,5 @@ use Rattle.examination_text.proofs.Input.{page-front}
 use Rattle.examining.proofs.run.Goals as goal
 
 pub returns : goal.returns
-returns g c = answered verdict_page 4096 page-front _ _ _ _ _ _ c.in_ok-length.ensures.front c.examine_rule-page.ensures.count_le_page_bytes.1 c.write.ensures
+returns g c =
+    answered verdict_page 4096 page-front _ _ _ _ _ _ c.in_ok-length.ensures.front c.examine_rule-page.ensures.count_le_page_bytes.1 c.write.ensures

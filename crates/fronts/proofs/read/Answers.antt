@@ -1,5 +1,6 @@
 -- What a read adds to the front of the buffer is what it took from the input; one that was interrupted changes neither.
-use Rattle.std.proofs.Common.{◌≡◌, ℕ, ◌+◌, ◌-◌, ◌≤◌, List, ◌++◌, rules, arith, length, take, slice_range, sym, ap, ◌∙◌, subst, le_refl, drop_at, length-take-le}
+use Rattle.std.proofs.Common.{◌≡◌, ℕ, ◌+◌, ◌-◌, ◌≤◌, List, ◌++◌, length, take, slice_range}
+use Rattle.std.proofs.Common.{rules, arith, sym, ap, ◌∙◌, subst, le_refl, drop_at, length-take-le}
 use Rattle.std.proofs.lemmas.Slice.{take-put_mid_below}
 use Rattle.std.specs.Io.KnownBytes.{Consumes}
 use Rattle.std.proofs.KnownBytes.{Consumes-trans, Consumes-kept}
@@ -17,7 +18,8 @@ slice_range-put_mid : (a k n : ℕ) (xs ys : List ℕ) → a ≤ length xs → n
 slice_range-put_mid a k n xs ys within fits =
     let same : (a + n) - a ≡ n = omega arith in
     let after = post_of a k xs in
-    ap (take ((a + n) - a)) (drop_at (take a xs) (ys ++ after) a (length-take-le a xs within)) ∙ ap (λ m. take m (ys ++ after)) same ∙ take-append-le n ys after fits
+    ap (take ((a + n) - a)) (drop_at (take a xs) (ys ++ after) a (length-take-le a xs within)) ∙ ap (λ m. take m (ys ++ after)) same
+    ∙ take-append-le n ys after fits
 
 pub loop-preserved : goal.loop-preserved
 loop-preserved g c =
@@ -28,10 +30,18 @@ loop-preserved g c =
       | in-Ok w ↦
           let n = w.in-Ok.n in
           let part = slice_range-put_mid from room n c.loop.buffer c.read.new.buf within w.in-Ok.ensures.bound.0 in
-          let joined = take_split from (from + n) c.loop.buffer (put_mid from room c.loop.buffer c.read.new.buf) (omega arith) (take-put_mid_below _ _ _ _ _ (le_refl _) within) in
-          rw w.done-is
-          (search rules, subst (Consumes _ _) (ap (λ l. take from c.loop.buffer ++ l) (sym part) ∙ joined) (Consumes-trans _ _ _ _ _ c.loop.invariant.1 w.in-Ok.ensures.bytes.0))
+          let joined =
+          take_split from (from + n) c.loop.buffer (put_mid from room c.loop.buffer c.read.new.buf) (omega arith)
+          (take-put_mid_below _ _ _ _ _ (le_refl _) within) in
+          rw w.done-is (
+            search rules,
+            subst (Consumes _ _) (ap (λ l. take from c.loop.buffer ++ l) (sym part) ∙ joined)
+                (Consumes-trans _ _ _ _ _ c.loop.invariant.1 w.in-Ok.ensures.bytes.0),
+          )
       | in-Err+else-ne w ↦
-          rw w.done-is
-          (search rules, subst (Consumes _ _) (sym (take-put_mid_below _ _ _ _ _ (le_refl _) within)) (Consumes-kept _ _ _ _ c.loop.invariant.1 w.in-Err.ensures.bytes))
+          rw w.done-is (
+            search rules,
+            subst (Consumes _ _) (sym (take-put_mid_below _ _ _ _ _ (le_refl _) within))
+                (Consumes-kept _ _ _ _ c.loop.invariant.1 w.in-Err.ensures.bytes),
+          )
     ]

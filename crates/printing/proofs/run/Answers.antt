@@ -5,4 +5,5 @@ use Rattle.rule_text.proofs.Printed.{printed-front}
 use Rattle.printing.proofs.run.Goals as goal
 
 pub returns : goal.returns
-returns g c = answered printed 66 printed-front _ _ _ _ _ _ c.in_ok-length.ensures.front c.print_rule-page.ensures.count_le_page_bytes.1 c.write.ensures
+returns g c =
+    answered printed 66 printed-front _ _ _ _ _ _ c.in_ok-length.ensures.front c.print_rule-page.ensures.count_le_page_bytes.1 c.write.ensures
