@@ -24,11 +24,11 @@ test: toolchain pages divisions ## prove everything, try the must-fail edits, ru
 	@$(MAKE) --no-print-directory console guide_rules python_test
 	@tail -n 1 build/ci.log
 
-pages: ## see that version, toolchain, table of crates, citations and line lengths are right
+pages: ## see that version, toolchain, table of crates, citations, line lengths and the texts of must-fail edits are right
 	@grep -q "^## $$(cat VERSION)" CHANGELOG.md || { echo "CHANGELOG.md does not tell of version $$(cat VERSION)"; exit 1; }
 	@grep -qF "$$(cat TOOLCHAIN)" README.md || { echo "README.md does not name the toolchain, $$(cat TOOLCHAIN)"; exit 1; }
 	@$(have_python)
-	@python3 tools/layers.py --check && python3 tools/citations.py && python3 tools/lengths.py
+	@python3 tools/layers.py --check && python3 tools/citations.py && python3 tools/lengths.py && python3 tools/edits.py
 
 divisions: ## see that the code that gets or sets coefficients, with all it calls, does not divide
 	@$(have_python)
