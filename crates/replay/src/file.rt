@@ -1,5 +1,6 @@
 // A recorded file, from its opening to the line of what was compared. It rests on std's files and on fronts of files.
-// A file that cannot be opened reads as an empty one, so that its line shows that nothing was compared.
+// A file that cannot be opened reads as an empty one, so that its line shows that nothing was compared. A read or a write that
+// fails ends the replay with its error.
 ghost use Rattle.std.specs.Prelude.{IfOk, IsTrue};
 ghost use Rattle.std.specs.Io.KnownBytes.{Consumes, IsAtEnd};
 
