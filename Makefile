@@ -22,7 +22,7 @@ help: ## list these commands
 test: toolchain pages divisions ## prove everything, try the must-fail edits, run the recorded cases and the examples
 	@tools/progress ci rt ci
 	@$(MAKE) --no-print-directory console guide_rules python_test
-	@tail -n 1 build/ci.log
+	@sed -n '$$s/^\([0-9]* passed, [0-9]* failed\).*/\1/p' build/ci.log
 
 pages: ## see that version, toolchain, table of crates, citations, line lengths and the texts of must-fail edits are right
 	@grep -q "^## $$(cat VERSION)" CHANGELOG.md || { echo "CHANGELOG.md does not tell of version $$(cat VERSION)"; exit 1; }
