@@ -7,7 +7,7 @@
 TABLE = 0111
 RULE = VA0 VA1 OR
 sources = crates.txt $(shell find crates -path '*/out' -prune -o \( -name '*.rt' -o -name '*.antt' \) -print)
-library = crates/$(1)/out/lib$(1).a
+library = build/lib$(1).a
 have_rt = command -v rt >/dev/null || { echo "needs rt, the Rattle toolchain's command, on the PATH"; exit 1; }
 have_python = command -v python3 >/dev/null || { echo "needs python3 on the PATH"; exit 1; }
 have_cc = command -v cc >/dev/null || { echo "needs cc, a C compiler, on the PATH"; exit 1; }
@@ -45,7 +45,8 @@ examine_rule: toolchain ## examine a rule against its table and say the verdict 
 	@printf '%s\n' '$(TABLE)' '$(RULE)' | tools/progress examine_rule rt run
 
 $(call library,console) $(call library,guide_rules): $(sources)
-	@tools/progress $(patsubst lib%.a,%,$(@F)) rt lib
+	@tools/progress $(patsubst lib%.a,%_c,$(@F)) rt lib
+	@mkdir -p build && cp crates/$(patsubst lib%.a,%_c,$(@F))/out/$(patsubst %.a,%_c.a,$(@F)) $@
 
 console: toolchain $(call library,console) ## build the console's library and run the C example over include/console.h
 	@$(have_cc)

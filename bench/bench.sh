@@ -15,9 +15,9 @@ trap 'rm -rf "$scratch"' EXIT
 trap 'exit 1' INT TERM
 
 "$here/oracle/build.sh" "$rust" "$scratch"
-# The static library of a crate, built over what was proved before.
+# The static library that exports a crate, built over what was proved before.
 library() {
-    (cd "$here/crates/$1" && rt lib >"$scratch/$1.log" 2>&1) || {
+    (cd "$here/crates/$1_c" && rt lib >"$scratch/$1.log" 2>&1) || {
         tail -n 5 "$scratch/$1.log" >&2
         exit 1
     }
@@ -25,7 +25,7 @@ library() {
 
 library guide_rules
 # Left to the linker, a function's place depends on what else is linked, and moves the time of a short call by about a seventh, up or down.
-objcopy --set-section-alignment '.text.*=64' "$here/crates/guide_rules/out/libguide_rules.a" "$scratch/libguide_rules.a"
+objcopy --set-section-alignment '.text.*=64' "$here/crates/guide_rules_c/out/libguide_rules_c.a" "$scratch/libguide_rules.a"
 rustc --edition 2021 -C opt-level=3 --crate-name bench --extern original="$scratch/liboriginal.rlib" -L "$scratch" -o "$scratch/bench" \
     "$here/bench/main.rs"
 "$scratch/bench" >"$scratch/table.md"
@@ -33,11 +33,11 @@ rustc --edition 2021 -C opt-level=3 --crate-name bench --extern original="$scrat
 "$scratch/bench" raw_costs >"$scratch/raw_costs.md"
 "$scratch/bench" packages >"$scratch/packages.md"
 "$scratch/bench" growth >"$scratch/growth.md"
-cc -O2 -std=c99 -Wall -Wextra -Werror -I"$here/include" "$here/bench/stack.c" "$here/crates/guide_rules/out/libguide_rules.a" -o "$scratch/stack"
+cc -O2 -std=c99 -Wall -Wextra -Werror -I"$here/include" "$here/bench/stack.c" "$here/crates/guide_rules_c/out/libguide_rules_c.a" -o "$scratch/stack"
 "$scratch/stack" >"$scratch/stack.md"
 library console
 # Code and constants, in bytes: the second and later lines of size's output, first column.
-code=$(size "$here/crates/console/out/libconsole.a" | awk 'NR > 1 { sum += $1 } END { print sum }')
+code=$(size "$here/crates/console_c/out/libconsole_c.a" | awk 'NR > 1 { sum += $1 } END { print sum }')
 {
     cat <<'END'
 # Measured beside the original

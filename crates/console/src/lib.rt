@@ -1,6 +1,6 @@
 // The console's calls, for C: evaluation and examination, each as two calls with the same arguments, one for the number, 0 for none, and one for the
-// result or the place. A table is bytes here, eight an entry, low byte first; a cut last entry doesn't count. `include/console.h` declares them. It
-// rests on `evaluation`, `examiner` and `table`.
+// result or the place. A table is bytes here, eight an entry, low byte first; a cut last entry doesn't count. `include/console.h` declares them, and
+// `console_c` exports them. They rest on `evaluation`, `examiner` and `table`.
 #![tactic(auto)]
 
 ghost use Rattle.std.specs.Prelude.{◌≡◌};
@@ -14,8 +14,7 @@ use rules::{RULE_FLAGS, Refusal, SHORT_TABLE, TOO_MANY_FLAGS};
 use table::Table;
 
 // The refusal's number at evaluation, or 0.
-#[unsafe(no_mangle)]
-pub extern "C" fn rule_evaluation_number(flags: usize, bytes: &[u8], setting: usize) -> u64
+pub fn rule_evaluation_number(flags: usize, bytes: &[u8], setting: usize) -> u64
     ensures { result ≡ number (Calls.evaluate flags bytes.now setting) }
 {
     let answer = evaluation::evaluate(flags, bytes, setting);
@@ -26,8 +25,7 @@ pub extern "C" fn rule_evaluation_number(flags: usize, bytes: &[u8], setting: us
 }
 
 // The value at the setting, or the refusal's place.
-#[unsafe(no_mangle)]
-pub extern "C" fn rule_evaluation_result(flags: usize, bytes: &[u8], setting: usize) -> u64
+pub fn rule_evaluation_result(flags: usize, bytes: &[u8], setting: usize) -> u64
     ensures { result ≡ result_of (Calls.evaluate flags bytes.now setting) }
 {
     let answer = evaluation::evaluate(flags, bytes, setting);
@@ -38,8 +36,7 @@ pub extern "C" fn rule_evaluation_result(flags: usize, bytes: &[u8], setting: us
 }
 
 // The refusal's number at examination, or 0.
-#[unsafe(no_mangle)]
-pub extern "C" fn rule_examination_number(flags: usize, table: &[u8], bytes: &[u8]) -> u64
+pub fn rule_examination_number(flags: usize, table: &[u8], bytes: &[u8]) -> u64
     ensures { result ≡ number (Calls.examine flags (entries table.now) bytes.now) }
 {
     let answer = examine(flags, table, bytes);
@@ -50,8 +47,7 @@ pub extern "C" fn rule_examination_number(flags: usize, table: &[u8], bytes: &[u
 }
 
 // The cost of an expression that is accepted, or the refusal's place.
-#[unsafe(no_mangle)]
-pub extern "C" fn rule_examination_result(flags: usize, table: &[u8], bytes: &[u8]) -> u64
+pub fn rule_examination_result(flags: usize, table: &[u8], bytes: &[u8]) -> u64
     ensures { result ≡ result_of (Calls.examine flags (entries table.now) bytes.now) }
 {
     let answer = examine(flags, table, bytes);

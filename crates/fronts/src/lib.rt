@@ -6,10 +6,10 @@ ghost use Rattle.std.specs.Io.{ReadsAtMost};
 ghost use Rattle.std.specs.Io.KnownBytes.{Consumes, IsAtEnd};
 
 use std::io;
-use std::io::{ErrorKind, Read};
+use std::io::Read;
 
-// Reads until the buffer is full or the input ends, and answers how many bytes it put at the start of the buffer. A read
-// that a signal interrupts is made again. On an empty buffer it reads nothing.
+// Reads until the buffer is full or the input ends, and answers how many bytes it put at the start of the buffer. On an
+// empty buffer it reads nothing.
 pub fn read<R: Read>(input: &mut R, buffer: &mut [u8]) -> io::Result<usize>
     ensures bound { ReadsAtMost result buffer.new }
     ensures front { IfOk result (λ n. IfSome (R.remaining input.old) (λ s. take n buffer.new ≡ take (length buffer.old) s)) }
@@ -17,19 +17,12 @@ pub fn read<R: Read>(input: &mut R, buffer: &mut [u8]) -> io::Result<usize>
     ensures end { IfOk result (λ n. n < length buffer.new → IsAtEnd (R.remaining input.new)) }
 {
     let mut done = 0;
-    for _ in 0..u64::MAX {
-        if done >= buffer.len() {
+    while done < buffer.len() {
+        let n = input.read(&mut buffer[done..])?;
+        if n == 0 {
             return Ok(done);
         }
-        match input.read(&mut buffer[done..]) {
-            Ok(0) => return Ok(done),
-            Ok(n) => done += n,
-            Err(e) => {
-                if e.kind() != ErrorKind::Interrupted {
-                    return Err(e);
-                }
-            }
-        }
+        done += n;
     }
-    Err(io::Error::from(ErrorKind::TimedOut))
+    Ok(done)
 }

@@ -1,13 +1,12 @@
--- What a read adds to the front of the buffer is what it took from the input; one that was interrupted changes neither.
+-- What a read adds to the front of the buffer is what it took from the input.
 use Rattle.std.proofs.Common.{◌≡◌, ℕ, ◌+◌, ◌-◌, ◌≤◌, List, ◌++◌, length, take, slice_range}
 use Rattle.std.proofs.Common.{rules, arith, sym, ap, ◌∙◌, subst, le_refl, drop_at, length-take-le}
 use Rattle.std.proofs.lemmas.Slice.{take-put_mid_below}
 use Rattle.std.specs.Io.KnownBytes.{Consumes}
-use Rattle.std.proofs.KnownBytes.{Consumes-trans, Consumes-kept}
+use Rattle.std.proofs.KnownBytes.{Consumes-trans}
 use borrow.Rule.Slice.PartMut.{put_mid, post_of}
 use lib.Seq.{take-add, take-append-le}
 use Rattle.fronts.proofs.read.Goals as goal
-use Rattle.fronts.proofs.read.Goals.{in-Ok, in-Err+else-ne}
 
 take_split : (a b : ℕ) (old new : List ℕ) → a ≤ b → take a new ≡ take a old → take a old ++ slice_range new a b ≡ take b new
 take_split a b old new h front =
@@ -21,27 +20,17 @@ slice_range-put_mid a k n xs ys within fits =
     ap (take ((a + n) - a)) (drop_at (take a xs) (ys ++ after) a (length-take-le a xs within)) ∙ ap (λ m. take m (ys ++ after)) same
     ∙ take-append-le n ys after fits
 
-pub loop-preserved : goal.loop-preserved
-loop-preserved g c =
-    let from = c.loop.done in
-    let room = length c.loop.buffer - from in
-    let within = c.loop.invariant.0 in
-    elim c.match-read.branch [
-      | in-Ok w ↦
-          let n = w.in-Ok.n in
-          let part = slice_range-put_mid from room n c.loop.buffer c.read.new.buf within w.in-Ok.ensures.bound.0 in
-          let joined =
-          take_split from (from + n) c.loop.buffer (put_mid from room c.loop.buffer c.read.new.buf) (omega arith)
-          (take-put_mid_below _ _ _ _ _ (le_refl _) within) in
-          rw w.done-is (
-            search rules,
-            subst (Consumes _ _) (ap (λ l. take from c.loop.buffer ++ l) (sym part) ∙ joined)
-                (Consumes-trans _ _ _ _ _ c.loop.invariant.1 w.in-Ok.ensures.bytes.0),
-          )
-      | in-Err+else-ne w ↦
-          rw w.done-is (
-            search rules,
-            subst (Consumes _ _) (sym (take-put_mid_below _ _ _ _ _ (le_refl _) within))
-                (Consumes-kept _ _ _ _ c.loop.invariant.1 w.in-Err.ensures.bytes),
-          )
-    ]
+pub loop-done-preserved : goal.loop-done-preserved
+loop-done-preserved g c =
+    let from = c.loop-done.done in
+    let room = length c.loop-done.buffer - from in
+    let n = c.in_ok-n.n in
+    let within = c.loop-done.invariant.0 in
+    let part = slice_range-put_mid from room n c.loop-done.buffer c.read.new.buf within c.in_ok-n.ensures.bound.0 in
+    let joined =
+    take_split from (from + n) c.loop-done.buffer (put_mid from room c.loop-done.buffer c.read.new.buf) (omega arith)
+    (take-put_mid_below _ _ _ _ _ (le_refl _) within) in (
+      search rules,
+      subst (Consumes _ _) (ap (λ l. take from c.loop-done.buffer ++ l) (sym part) ∙ joined)
+          (Consumes-trans _ _ _ _ _ c.loop-done.invariant.1 c.in_ok-n.ensures.bytes.0),
+    )
