@@ -18,7 +18,7 @@ use search::Family;
 
 // The rule that wins: no monomials, the whole OR family, the raw form, or the candidate of rule 2, 3 or 4, with its mask. `Open` leaves it to be
 // found.
-#[derive(Drop)]
+#[derive(Clone, Copy)]
 pub enum Choice {
     Constant,
     Family,
@@ -30,7 +30,7 @@ pub enum Choice {
 }
 
 // The choice for a form, its cost, and the choices for what it leaves to clean: rule 3's inner form, and the remainder of rule 2 or 3.
-#[derive(Drop)]
+#[derive(Clone, Copy)]
 pub struct Plan {
     pub choice: Choice,
     pub cost: usize,
@@ -39,7 +39,7 @@ pub struct Plan {
 }
 
 // The best cube so far, 0 for none, with its saving, and the cost of the cleaned inner form with its choice.
-#[derive(Drop)]
+#[derive(Clone, Copy)]
 struct Best {
     cube: usize,
     saving: usize,
@@ -48,7 +48,7 @@ struct Best {
 }
 
 // What the best-cube search finds.
-#[derive(Drop)]
+#[derive(Clone, Copy)]
 enum Factor {
     Found(Best),
     None,

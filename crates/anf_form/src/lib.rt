@@ -17,19 +17,19 @@ use rules::{
 };
 
 // What was listed: the constant, and the number of monomials.
-#[derive(Drop)]
+#[derive(Clone, Copy)]
 pub struct Contents {
     pub constant: bool,
     pub count: usize,
 }
 
-#[derive(Drop)]
+#[derive(Clone, Copy)]
 pub enum Listing {
     Listed(Contents),
     Refused(Refusal),
 }
 
-#[derive(Drop)]
+#[derive(Clone, Copy)]
 pub enum RawCost {
     Cost(usize),
     Refused(Refusal),

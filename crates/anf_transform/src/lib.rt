@@ -21,7 +21,7 @@ use rules::{
 };
 
 // What a call that fills a lent buffer answers: how many entries it wrote, or its refusal.
-#[derive(Drop)]
+#[derive(Clone, Copy)]
 pub enum Filled {
     Entries(usize),
     Refused(Refusal),

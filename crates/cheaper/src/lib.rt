@@ -11,7 +11,7 @@ ghost use Rattle.cheaper.specs.Part.{empty_part, cheaper_part};
 use expr_cost::{Costing, Costs, compute_cost};
 
 // Which of two expressions is the cheaper.
-#[derive(Drop)]
+#[derive(Clone, Copy)]
 pub enum Which {
     First,
     Second,

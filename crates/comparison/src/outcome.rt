@@ -4,7 +4,7 @@ ghost use Rattle.comparison.specs.Outcome.{results, refusal, same_outcome};
 
 // Whether it is a refusal, so that no result reads as one; a refusal's number, or 0; and up to four results. The first result
 // of a refusal is its place.
-#[derive(Drop)]
+#[derive(Clone, Copy)]
 pub struct Outcome {
     pub refused: bool,
     pub number: u64,

@@ -16,7 +16,7 @@ use rules::{BYTE_LIMIT, RULE_FLAGS, Refusal, SHORT_OUTPUT, SHORT_TABLE, TOO_MANY
 use table::Table;
 
 // What was written: the counts of bytes and records, the cost, and the cost of the raw form.
-#[derive(Drop)]
+#[derive(Clone, Copy)]
 pub struct Expression {
     pub bytes: usize,
     pub records: usize,
@@ -24,7 +24,7 @@ pub struct Expression {
     pub raw: usize,
 }
 
-#[derive(Drop)]
+#[derive(Clone, Copy)]
 pub enum Compilation {
     Written(Expression),
     Refused(Refusal),

@@ -22,7 +22,7 @@ ghost use Rattle.evaluation.specs.inner.OneSetting.{evaluated, setting_words};
 const FULL: usize = 0x8000000000000000;
 
 // An expression's value at a setting, 0 or 1, or the refusal.
-#[derive(Drop)]
+#[derive(Clone, Copy)]
 pub enum Evaluation {
     Value(u64),
     Refused(Refusal),

@@ -17,7 +17,7 @@ use rules::{DIFFERS, RULE_FLAGS, Refusal, SHORT_TABLE, TOO_COSTLY, TOO_MANY_FLAG
 use table::{Difference, Table};
 
 // The cost of an expression that is accepted, or the refusal.
-#[derive(Drop)]
+#[derive(Clone, Copy)]
 pub enum Examination {
     Accepted(usize),
     Refused(Refusal),

@@ -34,14 +34,14 @@ pub enum Kind {
 }
 
 // A record, and the place after it.
-#[derive(Drop)]
+#[derive(Clone, Copy)]
 pub struct Record {
     pub kind: Kind,
     pub next: usize,
 }
 
 // What begins at a place: a whole record, or one that is refused by rows 6, 7 or 8.
-#[derive(Drop)]
+#[derive(Clone, Copy)]
 pub enum Found {
     Whole(Record),
     Refused(Refusal),

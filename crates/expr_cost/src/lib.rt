@@ -17,14 +17,14 @@ use expr::Kind;
 use reader::Reading;
 use rules::{BAD_END, MANY_RECORDS, RECORD_LIMIT, RULE_FLAGS, Refusal, TOO_MANY_FLAGS};
 
-#[derive(Drop)]
+#[derive(Clone, Copy)]
 pub struct Costs {
     pub cost: usize,
     pub size: usize,
     pub depth: usize,
 }
 
-#[derive(Drop)]
+#[derive(Clone, Copy)]
 pub enum Costing {
     Known(Costs),
     Refused(Refusal),
@@ -37,21 +37,21 @@ fn refused(number: u64, place: usize) -> Costing
 }
 
 // The answer of a walk over lent arrays, or that the operands fill them.
-#[derive(Drop)]
+#[derive(Clone, Copy)]
 enum Attempt {
     Done(Costing),
     Full,
 }
 
 // Where on the stack a record stands, and what the ORs up to it save.
-#[derive(Drop)]
+#[derive(Clone, Copy)]
 struct Top {
     base: usize,
     saved: usize,
 }
 
 // The answer of one record: stopped where no entry is left for it.
-#[derive(Drop)]
+#[derive(Clone, Copy)]
 enum Pushed {
     At(Top),
     Stopped,

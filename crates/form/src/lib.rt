@@ -26,7 +26,7 @@ pub struct Form {
 }
 
 // Two monomials, ascending.
-#[derive(Drop)]
+#[derive(Clone, Copy)]
 pub struct Pair {
     pub first: usize,
     pub second: usize,

@@ -17,20 +17,20 @@ use reader::Reading;
 use rules::{BAD_END, MANY_RECORDS, RECORD_LIMIT, Refusal};
 
 // The values of an expression in all lanes, and its cost.
-#[derive(Drop)]
+#[derive(Clone, Copy)]
 pub struct Seen {
     pub values: u64,
     pub cost: usize,
 }
 
-#[derive(Drop)]
+#[derive(Clone, Copy)]
 pub enum Walked {
     Values(Seen),
     Refused(Refusal),
 }
 
 // The answer of a walk over a lent stack, or that the operands fill it.
-#[derive(Drop)]
+#[derive(Clone, Copy)]
 enum Attempt {
     Done(Walked),
     Full,

@@ -14,7 +14,7 @@ use crate::{RuleAt, numbers};
 use rule_package::HEADER_LENGTH;
 use rules::{BAD_RULE_MARK, PACKAGE_FLAGS, PAST_END, Refusal, STRAY_TABLE_BIT, TOO_MANY_FLAGS};
 
-#[derive(Drop)]
+#[derive(Clone, Copy)]
 pub enum Header {
     Found(RuleAt),
     Refused(Refusal),

@@ -19,7 +19,7 @@ use header::Header;
 use rules::{DIFFERS, PACKAGE_LIMIT, PAST_END, Refusal, TOO_COSTLY};
 
 // A rule in a package: its flag count, the word of its table, where its expression starts and how long it is, and the place after it.
-#[derive(Drop)]
+#[derive(Clone, Copy)]
 pub struct RuleAt {
     pub flags: usize,
     pub table: u64,
@@ -28,7 +28,7 @@ pub struct RuleAt {
     pub next: usize,
 }
 
-#[derive(Drop)]
+#[derive(Clone, Copy)]
 pub enum RuleReading {
     Found(RuleAt),
     End,

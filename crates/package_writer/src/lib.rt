@@ -17,7 +17,7 @@ use rule_package::HEADER_LENGTH;
 use rules::{PACKAGE_FLAGS, Refusal, SHORT_OUTPUT, STRAY_TABLE_BIT, TOO_MANY_FLAGS};
 
 // The length of the rule that was written, or the refusal.
-#[derive(Drop)]
+#[derive(Clone, Copy)]
 pub enum Writing {
     Written(usize),
     Refused(Refusal),

@@ -10,7 +10,7 @@ ghost use Rattle.rules.specs.Tree.{CO, AN, NO, write};
 ghost use Rattle.postfix.specs.Written.{Room, Put, Writes, chained};
 
 // Where the next record goes, and how many records stand before it.
-#[derive(Drop)]
+#[derive(Clone, Copy)]
 pub struct Cursor {
     pub place: usize,
     pub records: usize,

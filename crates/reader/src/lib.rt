@@ -17,7 +17,7 @@ use expr::{Found, Kind, Record};
 use rules::{FEW_OPERANDS, MANY_RECORDS, RECORD_LIMIT, RULE_FLAGS, Refusal, TOO_MANY_FLAGS};
 
 // A record that was read, the first byte of its first and of its second operand, 0 where there is none, and the place after it.
-#[derive(Drop)]
+#[derive(Clone, Copy)]
 pub struct Node {
     pub kind: Kind,
     pub first: usize,
@@ -26,7 +26,7 @@ pub struct Node {
 }
 
 // What the reader finds at a place.
-#[derive(Drop)]
+#[derive(Clone, Copy)]
 pub enum Reading {
     Found(Node),
     End,

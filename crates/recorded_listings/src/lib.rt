@@ -47,7 +47,7 @@ fn lists_as(flags: usize, words: &[u64], out: &mut [u32], expected: Outcome, lef
 
 // What a listing is asked to refuse: so many flags, and a buffer with so many entries too few. One above the limit of flags
 // and 1 are right; the limit and 0 ask for the refusal of a good call, which must show as a difference.
-#[derive(Drop)]
+#[derive(Clone, Copy)]
 pub struct Asked {
     pub flags: usize,
     pub lacking: usize,

@@ -55,7 +55,7 @@ pub const PAST_END: u64 = 16;
 pub const STRAY_TABLE_BIT: u64 = 17;
 
 // A refusal: the number by which the documents know its condition, and the place it gives.
-#[derive(Drop)]
+#[derive(Clone, Copy)]
 pub struct Refusal {
     pub number: u64,
     pub place: usize,

@@ -15,14 +15,14 @@ use form::Form;
 use mask_words::Lookup;
 
 // The mask of the partial OR's family, where there is one.
-#[derive(Drop)]
+#[derive(Clone, Copy)]
 pub enum Family {
     Of(usize),
     None,
 }
 
 // Sets of masks: those that at least one monomial contains, and those that at least two contain.
-#[derive(Drop)]
+#[derive(Clone, Copy)]
 struct Contained {
     once: u64,
     twice: u64,

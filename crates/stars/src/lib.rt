@@ -10,7 +10,7 @@ use lanes::Walked;
 use rules::{RULE_FLAGS, Refusal, SHORT_STARS, TOO_MANY_FLAGS};
 
 // An expression's values for 64 stars, bit j for star j, or the refusal.
-#[derive(Drop)]
+#[derive(Clone, Copy)]
 pub enum StarEvaluation {
     Values(u64),
     Refused(Refusal),

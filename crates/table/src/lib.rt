@@ -22,7 +22,7 @@ pub struct Table {
 }
 
 // The smallest setting at which a table and a word of values differ, if there is one.
-#[derive(Drop)]
+#[derive(Clone, Copy)]
 pub enum Difference {
     At(usize),
     None,

@@ -12,7 +12,7 @@ ghost use Rattle.text.specs.Page.{page_bytes, Shows};
 pub const PAGE_BYTES: usize = 1400;
 
 // The output of a program: the first `count` bytes.
-#[derive(Drop)]
+#[derive(Clone, Copy)]
 pub struct Page {
     pub bytes: [u8; PAGE_BYTES],
     pub count: usize,

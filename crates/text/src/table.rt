@@ -6,7 +6,7 @@ ghost use Rattle.rules.specs.Text.{flags_of};
 ghost use Rattle.text.specs.TableDigits.{is_digit, size_of, values};
 
 // The flag count of a line, where the number of its digits has one.
-#[derive(Drop)]
+#[derive(Clone, Copy)]
 pub enum Size {
     Flags(usize),
     Other,
