@@ -17,7 +17,7 @@ pub struct Opened<F> {
 }
 
 impl<F> Opened<F> {
-    pub fn is_open(&self) -> bool {
+    pub(crate) fn is_open(&self) -> bool {
         self.file.is_some()
     }
 }
