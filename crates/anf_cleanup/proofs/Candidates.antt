@@ -7,12 +7,10 @@
 --   cube-many                                  == where rule 3 chooses the cube c: two monomials
 --   cube-fewer, inner-fewer                    == the remainder and the stripped form have fewer literals
 --   cube-below                                 == and c is below the count of masks
---   Winner l b                                 == b has the best cube of the form l, and what it says of that is known
---   factor-none, factor-found                  == the search's answer: there is no best cube; its cube is a winner
 --   cube-limit                                 == a winner in a form: its cube, and what that costs with its inner form
 use mathlib.Core.Bool.{true, not}
 use mathlib.Core.List.{List}
-use mathlib.Core.Path.{◌≡◌, sym, ap, subst, ◌∙◌}
+use mathlib.Core.Path.{◌≡◌, sym, subst, ◌∙◌}
 use Prim.Native.Nat.{ℕ, ◌+◌, ◌≤◌, ◌<◌}
 use native.Mathlib.Nat.{lt_of_le_of_lt, le_trans}
 use native.Mathlib.Omega.{arith}
@@ -40,11 +38,8 @@ use Rattle.mask_words.specs.Lookup.{mask_count}
 use Rattle.form.specs.Masks.{masks}
 use Rattle.form.specs.declared.Form.{Form}
 use Rattle.form.proofs.Masks.{below-masks}
-use Rattle.search.proofs.Positive.{none-positive, some-positive}
-use Rattle.anf_cleanup.specs.Inner.{Known, cube_of, KnownFactor, Chosen}
+use Rattle.anf_cleanup.specs.Inner.{Winner}
 use Rattle.anf_cleanup.specs.declared.Best.{Best}
-use Rattle.anf_cleanup.specs.declared.Factor.{Factor}
-use Rattle.anf_cleanup.specs.declared.Factor.TheVariants.{Found, None}
 use Rattle.anf_cleanup.proofs.Bounds.{flags-below, inner-limit, product-limit, chain-limit}
 
 -- ---- rule 2
@@ -101,21 +96,7 @@ cube-below f c e p =
     let test = and_true_r (mem c (from 1 (union l))) (is_cube l c) (sym (mem-keep (is_cube l) (from 1 (union l)) c) ∙ candidate l c e p) in
     lt_of_le_of_lt (within-le c (union l) (is_cube-within l c test)) (flags-below f)
 
-pub record Winner (l : List ℕ) (b : Best) : Type 0 where
-  pub nonzero : 0 < b.cube
-  pub best : b.cube ≡ best_cube cleanup l
-  pub known : Known l b
-
-module _ (l : List ℕ) (f : Factor) (h : Chosen l f) where
-  pub factor-none : f ≡ None → best_cube cleanup l ≡ 0
-  factor-none q = none-positive (best_cube cleanup l) (ap cube_of (sym q) ∙ h.best)
-
-  pub factor-found : (b : Best) → f ≡ Found b → Winner l b
-  factor-found b q =
-      let same = some-positive b.cube (best_cube cleanup l) (ap cube_of (sym q) ∙ h.best) in
-      record { nonzero = same.0; best = same.1; known = subst (KnownFactor l) q h.known }
-
-pub cube-limit : (f : Form) (b : Best) → Winner (masks f) b → (b.cube < mask_count) × (cost (cube b.cube) + b.inner ≤ 396)
+pub cube-limit : (f : Form) (b : Best) → Winner (masks f) b → (b.cube < mask_count) × (cost (cube b.cube) + b.inner.cost ≤ 396)
 cube-limit f b h =
-    let small = cube-below f b.cube h.best h.nonzero in
-    (small, omega (arith, product-limit b.cube small h.nonzero, h.known.inner.cost, inner-limit f b.cube))
+    let small = cube-below f b.cube h.best h.known.nonzero in
+    (small, omega (arith, product-limit b.cube small h.known.nonzero, h.known.inner.costs, inner-limit f b.cube))

@@ -1,21 +1,21 @@
 -- The search for the best cube: trying every mask that two monomials contain, in ascending order, gives document 01's best cube, because no other
 -- mask is a candidate. It rests on the candidates (Candidates) and on an answer that may be none (search, Positive).
 --   cubes-shared                       == the candidates are among the masks that two monomials contain
---   fold-tried                         == trying masks one by one is choosing among the candidates of them
 --   Searching l b k                    == b is the best of the masks tried before, and the masks k are left to try
---   search-start, search-turn          == all masks are left, and there is no cube and no saving yet; one more is tried
---   search-none, search-found          == none is left, and there is no cube, or there is one
---   search-mask, search-fewer          == the next mask is one of six flags, above 0; without it fewer are left
+--   search-start                       == all masks are left, and there is no cube yet
+--   search-kept, search-more           == one more is tried: the best stays, or the mask takes its place
+--   search-done                        == none is left, and the best is found
+--   search-mask                        == the next mask is one of six flags, above 0
 use mathlib.Core.Bool.{Bool, true, false, not, ◌&&◌}
 use mathlib.Core.List.{List, [], ◌∷◌, ◌++◌, append-nil, foldl}
-use mathlib.Core.Path.{◌≡◌, refl, sym, ap, ap₂, ◌∙◌}
+use mathlib.Core.Path.{◌≡◌, refl, sym, ap, ◌∙◌}
 use mathlib.Mathlib.Data.Bool.Basic.{eq-false_of_not-eq-true}
-use Prim.Native.Nat.{ℕ, ◌+◌, ◌-◌, ◌<◌}
+use Rattle.std.specs.Prelude.{Option, Some, None, IfSome}
+use Prim.Native.Nat.{ℕ, ◌+◌, ◌-◌, ◌≤◌, ◌<◌}
 use native.Mathlib.Omega.{arith}
-use lib.Dec.{leb}
-use lib.ListN.{length, get_or, drop, length-drop}
-use lib.Seq.{drop-cons}
-use borrow.Author.Tests.{ltb-true, leb-true, le-leb}
+use lib.Dec.{leb, ltb}
+use lib.ListN.{length}
+use borrow.Author.Tests.{ltb-true, lt-ltb, le-ltb, leb-true, le-leb}
 use Rattle.bits.specs.Range.{from, keep, mem}
 use Rattle.bits.specs.Sum.{union}
 use Rattle.bits.proofs.Mask.{within-le}
@@ -27,16 +27,30 @@ use Rattle.laws.proofs.value.Recursion.{cubes, is_cube-many}
 use Rattle.mask_words.specs.Lookup.{mask_count}
 use Rattle.form.specs.Masks.{masks}
 use Rattle.form.specs.declared.Form.{Form}
-use Rattle.search.specs.Family.{positive}
-use Rattle.search.proofs.Positive.{positive-none, positive-some}
-use Rattle.anf_cleanup.specs.Inner.{best_of, KnownBest, tried, Tried, Chosen}
+use Rattle.anf_cleanup.specs.Inner.{best_of, Known, Chosen}
 use Rattle.anf_cleanup.specs.declared.Best.{Best}
-use Rattle.anf_cleanup.specs.declared.Factor.TheVariants.{Found, None}
 use Rattle.anf_cleanup.proofs.Bounds.{flags-below}
 use Rattle.anf_cleanup.proofs.Candidates.{is_cube-within}
 
 abbrev twice : List ℕ → ℕ → Bool
 twice l c = leb 2 (length (covered c l))
+
+-- one more mask: a candidate cube replaces the best if it saves strictly more
+unfoldable pub tried : List ℕ → paper.Best → ℕ → paper.Best
+tried l b c = elim (is_cube l c) [ true ↦ better (cube_saving cleanup l) b c | false ↦ b ]
+
+module _ (l : List ℕ) (b : paper.Best) (c : ℕ) where
+  by_test : (t : Bool) → is_cube l c ≡ t → tried l b c ≡ elim t as (λ _. paper.Best) [ true ↦ better (cube_saving cleanup l) b c | false ↦ b ]
+  unfolding tried
+  by_test t e = ap (λ (x : Bool). elim x as (λ _. paper.Best) [ true ↦ better (cube_saving cleanup l) b c | false ↦ b ]) e
+
+  by_saving : (v : ℕ) → is_cube l c ≡ true → v ≡ cube_saving cleanup l c → (t : Bool) → ltb b.saving v ≡ t
+      → tried l b c ≡ elim t as (λ _. paper.Best) [ true ↦ record { mask = c; saving = v } | false ↦ b ]
+  unfolding better
+  by_saving v e q t h =
+      by_test true e
+      ∙ ap (λ (x : ℕ). elim (ltb b.saving x) as (λ _. paper.Best) [ true ↦ record { mask = c; saving = x } | false ↦ b ]) (sym q)
+      ∙ ap (λ (x : Bool). elim x as (λ _. paper.Best) [ true ↦ record { mask = c; saving = v } | false ↦ b ]) h
 
 module _ (l : List ℕ) where
   pub cubes-shared : union l < mask_count → keep (is_cube l) (keep (twice l) (from 1 63)) ≡ cubes l
@@ -56,7 +70,7 @@ module _ (l : List ℕ) where
           let big = leb-true (1 + union l) c (and-true-l (leb (1 + union l) c) _ (sym (mem-from (1 + union l) (63 - union l) c) ∙ e)) in
           ap not (eq-false_of_not-eq-true (λ (t : is_cube l c ≡ true). omega (arith, within-le c (union l) (is_cube-within l c t))))
 
-  pub fold-tried : (k : List ℕ) (b : paper.Best) → foldl (tried l) b k ≡ foldl (better (cube_saving cleanup l)) b (keep (is_cube l) k)
+  fold-tried : (k : List ℕ) (b : paper.Best) → foldl (tried l) b k ≡ foldl (better (cube_saving cleanup l)) b (keep (is_cube l) k)
   unfolding tried keep
   fold-tried [] b = refl
   fold-tried (c ∷ k) b = fold-tried k (tried l b c) ∙ go (is_cube l c)
@@ -72,25 +86,23 @@ module _ (l : List ℕ) where
       go true = refl
       go false = refl
 
-pub record Searching (l : List ℕ) (b : Best) (k : List ℕ) : Type 0 where
+pub record Searching (l : List ℕ) (b : Option Best) (k : List ℕ) : Type 0 where
   pub inside : (c : ℕ) → mem c k ≡ true → (0 < c) × (c < mask_count)
   pub best : (foldl (tried l) (best_of b) k).mask ≡ best_cube cleanup l
-  pub known : KnownBest l b
+  pub known : IfSome b (Known l)
 
-pub search-start : (f : Form) (k : List ℕ) (b : Best) → b.cube ≡ 0 → b.saving ≡ 0 → k ≡ keep (twice (masks f)) (from 1 (mask_count - 1))
-    → Searching (masks f) b k
+pub search-start : (f : Form) (k : List ℕ) → k ≡ keep (twice (masks f)) (from 1 (mask_count - 1)) → Searching (masks f) None k
 unfolding best_cube greatest
-search-start f k b z v e =
+search-start f k e =
     let l = masks f in
     let none : paper.Best = record { mask = 0; saving = 0 } in
     record {
       inside = λ c h. range c (ap (mem c) (sym e) ∙ h);
       best =
-          ap₂ (λ (c s : ℕ). (foldl (tried l) (record { mask = c; saving = s }) k).mask) z v
-          ∙ ap (λ (x : List ℕ). (foldl (tried l) none x).mask) e
+          ap (λ (x : List ℕ). (foldl (tried l) none x).mask) e
           ∙ ap (λ (b : paper.Best). b.mask)
           (fold-tried l (keep (twice l) (from 1 63)) none ∙ ap (foldl (better (cube_saving cleanup l)) none) (cubes-shared l (flags-below f)));
-      known = λ p. absurd (omega arith);
+      known = tt;
     }
   where
     range : (c : ℕ) → mem c (keep (twice (masks f)) (from 1 63)) ≡ true → (0 < c) × (c < mask_count)
@@ -98,38 +110,35 @@ search-start f k b z v e =
         let here = sym (mem-from 1 63 c) ∙ and-true-l (mem c (from 1 63)) _ (sym (mem-keep (twice (masks f)) (from 1 63) c) ∙ h) in
         (leb-true 1 c (and-true-l (leb 1 c) _ here), ltb-true c 64 (and_true_r (leb 1 c) _ here))
 
-module _ (l : List ℕ) (b : Best) (k : List ℕ) (s : Searching l b k) (p : 0 < length k) where
-  abbrev next : ℕ
-  next = get_or k 0 0
+-- the next mask m, before those of q
+module _ (l : List ℕ) (b : Option Best) (k : List ℕ) (m : ℕ) (q : List ℕ) (e : k ≡ m ∷ q) (s : Searching l b k) where
+  pub search-mask : (0 < m) × (m < mask_count)
+  search-mask = s.inside m (ap (mem m) e ∙ mem-head m q)
 
-  parts : k ≡ next ∷ drop 1 k
-  parts = drop-cons k 0 0 p
-
-  pub search-mask : (m : ℕ) → m ≡ next → (0 < m) × (m < mask_count)
-  search-mask m e = s.inside m (ap (mem m) parts ∙ ap (λ (x : ℕ). mem m (x ∷ drop 1 k)) (sym e) ∙ mem-head m (drop 1 k))
-
-  pub search-fewer : (q : List ℕ) → q ≡ drop 1 k → length q < length k
-  search-fewer q e = omega (arith, ap length e, length-drop 1 k)
-
-  pub search-turn : (m : ℕ) (q : List ℕ) (r : Best) → m ≡ next → q ≡ drop 1 k → Tried l m b r → Searching l r q
-  search-turn m q r i e t = record {
-    inside = λ c h. s.inside c (ap (mem c) parts ∙ mem-tail next (drop 1 k) c (ap (mem c) (sym e) ∙ h));
+  turned : (o : Option Best) → best_of o ≡ tried l (best_of b) m → IfSome o (Known l) → Searching l o q
+  turned o t h = record {
+    inside = λ c h. s.inside c (ap (mem c) e ∙ mem-tail m q c h);
     best =
-        ap₂ (λ (x : paper.Best) (y : List ℕ). (foldl (tried l) x y).mask) (t.best ∙ ap (tried l (best_of b)) i) e
-        ∙ ap (λ (x : List ℕ). (foldl (tried l) (best_of b) x).mask) (sym parts) ∙ s.best;
-    known = t.known s.known;
+        ap (λ (x : paper.Best). (foldl (tried l) x q).mask) t
+        ∙ ap (λ (x : List ℕ). (foldl (tried l) (best_of b) x).mask) (sym e) ∙ s.best;
+    known = h;
   }
 
-module _ (l : List ℕ) (b : Best) (k : List ℕ) (s : Searching l b k) (e : length k ≡ 0) where
-  tried-all : b.cube ≡ best_cube cleanup l
-  tried-all = go k e s.best
+  pub search-kept : (is_cube l m ≡ true → cube_saving cleanup l m ≤ (best_of b).saving) → Searching l b q
+  search-kept h = turned b (go (is_cube l m) refl) s.known
     where
-      go : (x : List ℕ) → length x ≡ 0 → (foldl (tried l) (best_of b) x).mask ≡ best_cube cleanup l → b.cube ≡ best_cube cleanup l
-      go [] z h = h
-      go (c ∷ x) z h = absurd (omega arith)
+      go : (t : Bool) → is_cube l m ≡ t → best_of b ≡ tried l (best_of b) m
+      go true e = sym (by_saving l (best_of b) m _ e refl false (le-ltb (best_of b).saving _ (h e)))
+      go false e = sym (by_test l (best_of b) m false e)
 
-  pub search-none : b.cube ≡ 0 → Chosen l None
-  search-none z = record { best = positive-none (best_cube cleanup l) (sym tried-all ∙ z); known = tt }
+  pub search-more : (d : Best) → (d.cube ≡ m) × ((best_of b).saving < d.saving) × Known l d → Searching l (Some d) q
+  search-more d (i, h, k) =
+      turned (Some d)
+      (sym (by_saving l (best_of b) d.cube d.saving k.test k.saving true (lt-ltb (best_of b).saving d.saving h)) ∙ ap (tried l (best_of b)) i) k
 
-  pub search-found : 0 < b.cube → Chosen l (Found b)
-  search-found p = record { best = positive-some b.cube p ∙ ap positive tried-all; known = s.known p }
+pub search-done : (l : List ℕ) (b : Option Best) (k : List ℕ) → k ≡ [] → Searching l b k → Chosen l b
+search-done l b k e s = go b s.known (ap (λ (x : List ℕ). (foldl (tried l) (best_of b) x).mask) (sym e) ∙ s.best)
+  where
+    go : (o : Option Best) → IfSome o (Known l) → (best_of o).mask ≡ best_cube cleanup l → Chosen l o
+    go (Some d) k h = record { best = h; known = k }
+    go None k h = sym h

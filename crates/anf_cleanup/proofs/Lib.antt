@@ -2,7 +2,9 @@ pub mod Bounds
 pub mod Candidates
 pub mod Rules
 pub mod Plans
+pub mod Contest
 pub mod Cubes
 pub mod Saving
 pub mod Least
 pub mod Determined
+pub mod Fewer

@@ -1,7 +1,7 @@
 -- Plans and the trees that they make: the best after the candidate of a rule, and what each choice's tree costs.
 -- It rests on the definitions of specs/Plan, on the rules' equations (Rules) and on the raw form's cost (laws, Cost).
 --   planned-chosen                                 == the plan of a choice, for the tree that it makes
---   planned-right, right-open                      == a plan's choice is right, and so is one that is left open
+--   planned-right, right-open                      == a plan's choice is right, and so is one that is still to be found
 --   improved-none, improved-one, improved-kept     == a rule with no candidate; with one that costs less than the best, and with one that does not
 --   planned-contest, planned-single                == the raw form, then the candidates of rules 2, 3 and 4; with one monomial there are none
 --   cost-constant, cost-family, cost-raw           == what the trees of the choices cost; a constant 1 in front costs 2
@@ -10,6 +10,7 @@
 use mathlib.Core.Bool.{Bool, true, false, not}
 use mathlib.Core.List.{List, [], ◌∷◌}
 use mathlib.Core.Path.{◌≡◌, refl, sym, ap, subst, ◌∙◌}
+use Rattle.std.specs.Prelude.{Option, Some, None}
 use Prim.Native.Nat.{ℕ, ◌+◌, ◌-◌, ◌*◌, ◌≤◌, ◌<◌}
 use native.Mathlib.Omega.{arith}
 use lib.Bits.{bit_and}
@@ -24,9 +25,9 @@ use Rattle.rules.specs.Monomial.{constant, monomials}
 use Rattle.rules.specs.Tree.{Tree, AN, NO, cost}
 use Rattle.laws.proofs.cost.Cost.{cost-raw_form}
 use Rattle.anf_cleanup.specs.Inner.{Improved}
-use Rattle.anf_cleanup.specs.Plan.{built, Allowed, rank, Right, Parts, Planned}
+use Rattle.anf_cleanup.specs.Plan.{built, Allowed, Right, Parts, Planned}
 use Rattle.anf_cleanup.specs.declared.Choice.{Choice}
-use Rattle.anf_cleanup.specs.declared.Choice.TheVariants.{Constant, Family, Raw, Partial, Cube, Absorption, Open}
+use Rattle.anf_cleanup.specs.declared.Choice.TheVariants.{Constant, Family, Raw, Partial, Cube, Absorption}
 use Rattle.anf_cleanup.specs.declared.Plan.{Plan}
 use Rattle.anf_cleanup.proofs.Rules.{cleanup-contest, partial_or-few, common_cube-few, absorption-none, absorption-tree}
 
@@ -34,10 +35,11 @@ decided : (t u : Tree) (b : Bool) → ltb (cost u) (cost t) ≡ b → cheaper t 
 unfolding cheaper
 decided t u b e = ap (λ (c : Bool). elim c as (λ _. Tree) [ true ↦ u | false ↦ t ]) e
 
-module _ (l : List ℕ) (c : Choice) (n : ℕ) (i r : Choice) (w : Plan) (e : w ≡ record { choice = c; cost = n; inner = i; rest = r })
-    (k : n ≡ cost (built c l)) (a : Allowed c l) (z : rank c ≡ 0) (s : Parts c l i r) where
+module _ (l : List ℕ) (c : Choice) (n : ℕ) (i r : Option Choice) (w : Plan)
+    (e : w ≡ record { choices = record { form = Some c; inner = i; rest = r }; cost = n })
+    (k : n ≡ cost (built c l)) (a : Allowed c l) (s : Parts c l i r) where
   pub planned-chosen : (t : Tree) → t ≡ built c l → Planned l t w
-  planned-chosen t q = rw e (record { makes = sym q; costs = k ∙ ap cost (sym q); allowed = a; closed = z; parts = s })
+  planned-chosen t q = rw e (record { makes = sym q; costs = k ∙ ap cost (sym q); allowed = a; closed = refl; parts = s })
 
   pub improved-one : (us : List Tree) (p : Plan) → us ≡ built c l ∷ [] → n < p.cost → Improved l us p w
   improved-one us p f m t h =
@@ -47,10 +49,10 @@ pub improved-kept : (l : List ℕ) (us : List Tree) (p : Plan) (u : Tree) (n : �
 improved-kept l us p u n f k m t h =
     rw f (subst (λ (x : Tree). Planned l x p) (sym (decided t u false (le-ltb (cost u) (cost t) (omega (arith, k, h.costs))))) h)
 
-pub planned-right : (l : List ℕ) (p : Plan) → Planned l (cleanup l) p → Right p.choice l
+pub planned-right : (l : List ℕ) (p : Plan) → Planned l (cleanup l) p → Right p.choices.form l
 planned-right l p h = record { makes = h.makes; allowed = h.allowed }
 
-pub right-open : (l : List ℕ) → Right Open l
+pub right-open : (l : List ℕ) → Right None l
 right-open l = record { makes = refl; allowed = tt }
 
 pub improved-none : (l : List ℕ) (us : List Tree) (p : Plan) → us ≡ [] → Improved l us p p

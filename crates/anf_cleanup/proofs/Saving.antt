@@ -1,31 +1,26 @@
--- What a cube saves, from the literals of the monomials that it covers. And the best after a cube is tried, by what it saves, or by the most that it
--- can save. It rests on the literals of covered monomials (laws, Literals), on raw cost by literals (laws, Cost), and on the cleanup's cost and
--- what it is at least (laws, Size; Least).
---   tried-skipped                  == a mask that is no candidate leaves the best as it is
---   Candidate l c k                == c is a candidate cube of the form l, and k is its stripped form
+-- What a cube saves, from the literals of the monomials that it covers, and the most that it can save. It rests on the literals of covered monomials
+-- (laws, Literals), on raw cost by literals (laws, Cost), and on the cleanup's cost and what it is at least (laws, Size; Least).
+--   Candidate l c k, candidate-of  == c is a candidate cube of the form l, and k is its stripped form; so of a form in code
 --   inner-many                     == then k has two masks or more
 --   gross-literals, gross-room     == the gross saving by the covered monomials' literals, which are enough for it
 --   inner-bounds                   == no number of these is above the next: the least that k can cost, its cost cleaned and raw, the gross saving
---   known-cube                     == what is known of a candidate from its gross saving and its cleaned inner form
---   tried-more, tried-kept         == a cube that saves more than the best so far takes its place, and one that does not leaves it
---   tried-passed                   == so does one that would not save more even with an inner form of the least cost
+--   known-cube                     == what is known of a candidate from its gross saving and the plan of its inner form
+--   tried-passed                   == a cube that would not save more even with an inner form of the least cost does not
 use mathlib.Core.Bool.{Bool, true, false}
 use mathlib.Core.List.{List}
 use mathlib.Core.Path.{◌≡◌, refl, sym, ap, ap₂, subst, ◌∙◌}
 use mathlib.Mathlib.Data.Bool.Basic.{eq-false_of_not-eq-true}
+use Rattle.std.specs.Prelude.{None}
 use Prim.Native.Nat.{ℕ, ◌+◌, ◌-◌, ◌*◌, ◌≤◌, ◌<◌}
 use native.Mathlib.Nat.{mul-le-mul_right}
 use native.Mathlib.Omega.{arith}
 use lib.Count.{ones}
-use lib.Dec.{ltb}
 use lib.ListN.{length, length-map}
-use borrow.Author.Tests.{lt-ltb, le-ltb}
 use Rattle.bits.specs.Bit.{digit}
 use Rattle.bits.specs.Range.{Ascending}
 use Rattle.bits.proofs.Bit.{digit-le}
 use Rattle.bits.proofs.Mask.{zero-within, ones_pos}
-use Rattle.rules.specs.Cleanup.{cleanup, covered, stripped, is_cube, cube_saving, better}
-use Rattle.rules.specs.Cleanup as paper
+use Rattle.rules.specs.Cleanup.{cleanup, covered, stripped, is_cube, cube_saving}
 use Rattle.rules.specs.Form.{cube, raw_cost, literals}
 use Rattle.rules.specs.Monomial.{constant}
 use Rattle.rules.specs.Tree.{cost}
@@ -35,32 +30,13 @@ use Rattle.anf_cleanup.proofs.Least.{least-cleanup}
 use Rattle.laws.proofs.form.Literals.{literals-covered}
 use Rattle.laws.proofs.value.Recursion.{is_cube-many}
 use Rattle.laws.proofs.cost.Size.{cost-cleanup}
-use Rattle.anf_cleanup.specs.Inner.{best_of, tried, gross, least, Known, Tried}
-use Rattle.anf_cleanup.specs.Plan.{Right}
-use Rattle.anf_cleanup.specs.declared.Best.{Best}
-use Rattle.anf_cleanup.specs.declared.Choice.{Choice}
-use Rattle.anf_cleanup.specs.declared.Choice.TheVariants.{Open}
+use Rattle.form.specs.Masks.{masks}
+use Rattle.form.specs.declared.Form.{Form}
+use Rattle.form.proofs.Masks.{ascending-masks}
+use Rattle.anf_cleanup.specs.Inner.{gross, least, Known, Tried}
+use Rattle.anf_cleanup.specs.Plan.{Planned}
+use Rattle.anf_cleanup.specs.declared.Plan.{Plan}
 use Rattle.anf_cleanup.proofs.Bounds.{union-some}
-use Rattle.anf_cleanup.proofs.Plans.{right-open}
-
--- ---- one more mask
-
-module _ (l : List ℕ) (c : ℕ) (b : Best) where
-  turned : (t : Bool) → is_cube l c ≡ t
-      → tried l (best_of b) c ≡ elim t as (λ _. paper.Best) [ true ↦ better (cube_saving cleanup l) (best_of b) c | false ↦ best_of b ]
-  unfolding tried
-  turned t e = ap (λ (x : Bool). elim x as (λ _. paper.Best) [ true ↦ better (cube_saving cleanup l) (best_of b) c | false ↦ best_of b ]) e
-
-  pub tried-skipped : is_cube l c ≡ false → Tried l c b b
-  tried-skipped e = record { best = sym (turned false e); known = λ h. h }
-
-  settled : (v : ℕ) → is_cube l c ≡ true → v ≡ cube_saving cleanup l c → (t : Bool) → ltb b.saving v ≡ t
-      → tried l (best_of b) c ≡ elim t as (λ _. paper.Best) [ true ↦ record { mask = c; saving = v } | false ↦ best_of b ]
-  unfolding better
-  settled v e q t h =
-      turned true e
-      ∙ ap (λ (x : ℕ). elim (ltb b.saving x) as (λ _. paper.Best) [ true ↦ record { mask = c; saving = x } | false ↦ best_of b ]) (sym q)
-      ∙ ap (λ (x : Bool). elim x as (λ _. paper.Best) [ true ↦ record { mask = c; saving = v } | false ↦ best_of b ]) h
 
 -- ---- what a cube saves
 
@@ -69,6 +45,10 @@ pub record Candidate (l : List ℕ) (c : ℕ) (k : List ℕ) : Type 0 where
   pub nonzero : 0 < c
   pub test : is_cube l c ≡ true
   pub inner : k ≡ stripped c l
+
+pub candidate-of : (f : Form) (c : ℕ) (k : List ℕ) → 0 < c → {t : Bool} → t ≡ is_cube (masks f) c → t ≡ true → k ≡ stripped c (masks f)
+    → Candidate (masks f) c k
+candidate-of f c k p e t q = record { rises = ascending-masks f; nonzero = p; test = sym e ∙ t; inner = q }
 
 module _ (l : List ℕ) (c : ℕ) (k : List ℕ) (u : Candidate l c k) where
   size : length k ≡ length (covered c l)
@@ -126,30 +106,17 @@ module _ (l : List ℕ) (c : ℕ) (k : List ℕ) (u : Candidate l c k) where
   unfolding cube_saving gross
   saving-cube g n p q = ap₂ (λ (x y : ℕ). x - y) p (cost-stripped n q)
 
--- ---- the best after a cube
-
-module _ (l : List ℕ) (b c : Best) (k : Known l c) where
-  pub tried-more : b.saving < c.saving → Tried l c.cube b c
-  tried-more m = record {
-    best = sym (settled l c.cube b c.saving k.test k.saving true (lt-ltb b.saving c.saving m));
-    known = λ _ _. k;
-  }
-
-  pub tried-kept : c.saving ≤ b.saving → Tried l c.cube b b
-  tried-kept m = record {
-    best = sym (settled l c.cube b c.saving k.test k.saving false (le-ltb b.saving c.saving m));
-    known = λ i. i;
-  }
+-- ---- a cube that is tried
 
 module _ (l : List ℕ) (c : ℕ) (k : List ℕ) (u : Candidate l c k) where
-  pub known-cube : (g n : ℕ) (d : Choice) → g ≡ gross c l → n ≡ cost (cleanup k) → Right d k
-      → Known l (record { cube = c; saving = g - n; inner = n; choice = d })
-  known-cube g n d p q r = record {
+  pub known-cube : (g : ℕ) (p : Plan) → g ≡ gross c l → Planned k (cleanup k) p
+      → Known l (record { cube = c; saving = g - p.cost; inner = p })
+  known-cube g p e h = record {
+    nonzero = u.nonzero;
     test = u.test;
-    saving = saving-cube l c k u g n p q;
-    inner = record { cost = cost-stripped l c k u n q; choice = subst (Right d) u.inner r };
+    saving = saving-cube l c k u g p.cost e h.costs;
+    inner = subst (λ (x : List ℕ). Planned x (cleanup x) p) u.inner h;
   }
 
-  pub tried-passed : (b : Best) → gross c l - least k ≤ b.saving → Tried l c b b
-  tried-passed b h =
-      tried-kept l b _ (known-cube (gross c l) (cost (cleanup k)) Open refl refl (right-open k)) (omega (arith, inner-bounds l c k u))
+  pub tried-passed : (s : ℕ) → gross c l - least k ≤ s → Tried l c s None
+  tried-passed s h = λ _. omega (arith, saving-cube l c k u (gross c l) (cost (cleanup k)) refl refl, inner-bounds l c k u)

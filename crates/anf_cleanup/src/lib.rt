@@ -3,55 +3,66 @@
 // literals fall from one cleanup to the next. It rests on `form` and on `search`.
 #![tactic(auto)]
 
-ghost use Rattle.std.specs.Prelude.{true, ◌≡◌, ◌<◌, ◌≤◌, length};
+ghost use Rattle.std.specs.Prelude.{Some, None, true, ◌≡◌, ◌<◌, ◌≤◌, length};
 ghost use Rattle.form.specs.Masks.{masks};
-ghost use Rattle.mask_words.specs.Lookup.{mask_count, lookup_words};
+ghost use Rattle.mask_words.specs.Lookup.{mask_count};
 ghost use Rattle.rules.specs.Cleanup as paper;
 ghost use Rattle.rules.specs.Form as raw;
 ghost use Rattle.rules.specs.Tree.{cost};
-ghost use Rattle.anf_cleanup.specs.Inner.{Improved, gross, least, Tried, Chosen};
+ghost use Rattle.anf_cleanup.specs.Inner.{Improved, best_of, gross, least, Tried, Chosen};
 ghost use Rattle.anf_cleanup.specs.Plan.{Planned};
 
 use form::Form;
 use mask_words::Lookup;
-use search::Family;
 
-// The rule that wins: no monomials, the whole OR family, the raw form, or the candidate of rule 2, 3 or 4, with its mask. `Open` leaves it to be
-// found.
-#[derive(Clone, Copy)]
+// The rule that wins: no monomials, the whole OR family, the raw form, or the candidate of rule 2, 3 or 4, with its mask. A mask of six flags is a
+// byte here, so that a plan is small: every turn of the search has one.
+#[derive(Clone, Copy, Debug, PartialEq, Eq)]
 pub enum Choice {
     Constant,
     Family,
     Raw,
-    Partial(usize),
-    Cube(usize),
+    Partial(u8),
+    Cube(u8),
     Absorption,
-    Open,
 }
 
-// The choice for a form, its cost, and the choices for what it leaves to clean: rule 3's inner form, and the remainder of rule 2 or 3.
-#[derive(Clone, Copy)]
+// The choice for a form, and those for what it leaves to clean: rule 3's inner form, and the remainder of rule 2 or 3. Where there is none it is
+// still to be found.
+#[derive(Clone, Copy, Debug, PartialEq, Eq)]
+pub struct Choices {
+    pub form: Option<Choice>,
+    pub inner: Option<Choice>,
+    pub rest: Option<Choice>,
+}
+
+// The choices for a form, and what it costs by them.
+#[derive(Clone, Copy, Debug, PartialEq, Eq)]
 pub struct Plan {
-    pub choice: Choice,
+    pub choices: Choices,
     pub cost: usize,
-    pub inner: Choice,
-    pub rest: Choice,
 }
 
-// The best cube so far, 0 for none, with its saving, and the cost of the cleaned inner form with its choice.
+// A cube with its saving and the plan of its inner form.
 #[derive(Clone, Copy)]
 struct Best {
-    cube: usize,
+    cube: u8,
     saving: usize,
-    inner: usize,
-    choice: Choice,
+    inner: Plan,
 }
 
-// What the best-cube search finds.
-#[derive(Clone, Copy)]
-enum Factor {
-    Found(Best),
-    None,
+impl Choices {
+    // The choice for a form, with none for its parts.
+    #[inline]
+    pub fn of(form: Option<Choice>) -> Choices
+        ensures { result ≡ record { form = form; inner = None; rest = None } }
+    {
+        Choices {
+            form,
+            inner: None,
+            rest: None,
+        }
+    }
 }
 
 // The cost of a product, and of an OR chain, of the flags of a mask.
@@ -75,34 +86,33 @@ fn chain_cost(mask: usize) -> usize
 
 // The plan of a choice that leaves no form to clean.
 fn whole(choice: Choice, cost: usize) -> Plan
-    ensures { result ≡ record { choice = choice; cost = cost; inner = Choice.Open; rest = Choice.Open } }
+    ensures { result ≡ record { choices = record { form = Some choice; inner = None; rest = None }; cost = cost } }
 {
     Plan {
-        choice,
+        choices: Choices::of(Some(choice)),
         cost,
-        inner: Choice::Open,
-        rest: Choice::Open,
     }
 }
 
 // The plan of rule 3's candidate.
-fn factored(found: Best, cost: usize, rest: Choice) -> Plan
-    ensures { result ≡ record { choice = Choice.Cube found.cube; cost = cost; inner = found.choice; rest = rest } }
+fn factored(found: Best, cost: usize, rest: Option<Choice>) -> Plan
+    ensures { result ≡ record {
+      choices = record { form = Some (Choice.Cube found.cube); inner = found.inner.choices.form; rest = rest };
+      cost = cost;
+    } }
 {
-    let cube = found.cube;
-    let inner = found.choice;
-    Plan {
-        choice: Choice::Cube(cube),
-        cost,
-        inner,
+    let choices = Choices {
+        form: Some(Choice::Cube(found.cube)),
+        inner: found.inner.choices.form,
         rest,
-    }
+    };
+    Plan { choices, cost }
 }
 
 // The rule that wins for a form whose raw cost is `raw_cost`.
 #[cycle(cleanup)]
 pub fn cleanup(form: Form, raw_cost: usize, lookup: &Lookup) -> Plan
-    requires { (raw_cost ≡ raw.raw_cost (masks form)) × (lookup.now ≡ lookup_words) }
+    requires { (raw_cost ≡ raw.raw_cost (masks form)) }
     ensures { Planned (masks form) (paper.cleanup (masks form)) result }
 {
     let count = form.count();
@@ -127,11 +137,9 @@ pub fn cleanup(form: Form, raw_cost: usize, lookup: &Lookup) -> Plan
 // Rule 2: the chain of the best family, in XO with the cleaned remainder.
 #[cycle(cleanup)]
 fn partial_or(form: Form, best: Plan, lookup: &Lookup) -> Plan
-    requires { lookup.now ≡ lookup_words }
     ensures { Improved (masks form) (paper.partial_or paper.cleanup (masks form)) best result }
 {
-    let found = search::best_family(form, lookup);
-    let Family::Of(mask) = found else {
+    let Some(mask) = search::best_family(form, lookup) else {
         return best;
     };
     let rest = form.without(mask, lookup);
@@ -140,98 +148,96 @@ fn partial_or(form: Form, best: Plan, lookup: &Lookup) -> Plan
     if best.cost <= cost {
         return best;
     }
-    let chosen = plan.choice;
-    Plan {
-        choice: Choice::Partial(mask),
-        cost,
-        inner: Choice::Open,
-        rest: chosen,
-    }
+    let choices = Choices {
+        form: Some(Choice::Partial(mask as u8)),
+        inner: None,
+        rest: plan.choices.form,
+    };
+    Plan { choices, cost }
 }
 
 // Rule 3: the product of the best cube and the cleaned inner form, in XO with the cleaned remainder unless that is empty.
 #[cycle(cleanup)]
 fn common_cube(form: Form, best: Plan, lookup: &Lookup) -> Plan
-    requires { lookup.now ≡ lookup_words }
     ensures { Improved (masks form) (paper.common_cube paper.cleanup (masks form)) best result }
 {
-    let answer = best_cube(form, lookup);
-    let Factor::Found(found) = answer else {
+    let Some(found) = best_cube(form, lookup) else {
         return best;
     };
-    let cube = found.cube;
-    let product = product_cost(cube) + found.inner + 1;
+    let cube = found.cube as usize;
+    let product = product_cost(cube) + found.inner.cost + 1;
     let rest = form.uncovered(cube, lookup);
     if rest.is_empty() {
         if best.cost <= product {
             return best;
         }
-        return factored(found, product, Choice::Open);
+        return factored(found, product, None);
     }
     let plan = cleanup(rest, rest.raw_cost(), lookup);
     let cost = product + plan.cost + 1;
     if best.cost <= cost {
         return best;
     }
-    let chosen = plan.choice;
-    factored(found, cost, chosen)
+    factored(found, cost, plan.choices.form)
 }
 
 // The cube of the greatest saving, the smallest of equal ones: every mask that two monomials contain is tried in ascending order.
 #[cycle(cleanup)]
-fn best_cube(form: Form, lookup: &Lookup) -> Factor
-    requires { lookup.now ≡ lookup_words }
+fn best_cube(form: Form, lookup: &Lookup) -> Option<Best>
     ensures { Chosen (masks form) result }
 {
-    let mut best = Best {
-        cube: 0,
-        saving: 0,
-        inner: 0,
-        choice: Choice::Open,
-    };
-    let mut left = search::shared_cubes(form);
-    while !left.is_empty() {
-        best = try_cube(form, left.first(), best, lookup);
-        left = left.rest();
+    let mut best = None;
+    for cube in search::shared_cubes(form).masks() {
+        if let Some(better) = try_cube(form, cube, saved(best), lookup) {
+            best = Some(better);
+        }
     }
-    if best.cube == 0 {
-        return Factor::None;
-    }
-    Factor::Found(best)
+    best
 }
 
-// The best after one more mask, if that is a candidate cube. Its inner form is cleaned for its cost, unless the cube could not be the best even at
-// the least that a form with these flags can cost.
+// A cube that saves more than `most`, if it is a candidate. Its inner form is cleaned for its cost only where the cube could save more at the least
+// that a form with these flags can cost. The test before that, at no cost, spares most cubes the search for these flags.
 #[cycle(cleanup)]
-fn try_cube(form: Form, cube: usize, best: Best, lookup: &Lookup) -> Best
-    requires { (lookup.now ≡ lookup_words) × (0 < cube) × (cube < mask_count) }
-    ensures { Tried (masks form) cube best result }
+fn try_cube(form: Form, cube: usize, most: usize, lookup: &Lookup) -> Option<Best>
+    requires { (0 < cube) × (cube < mask_count) }
+    ensures { Tried (masks form) cube most result }
 {
     if !search::is_cube(form, cube, lookup) {
-        return best;
+        return None;
     }
     let gross = gross_saving(form, cube, lookup);
+    if gross <= most {
+        return None;
+    }
     let inner = form.stripped(cube, lookup);
-    if gross - least_cost(inner) <= best.saving {
-        return best;
+    if gross - least_cost(inner) <= most {
+        return None;
     }
     let plan = cleanup(inner, inner.raw_cost(), lookup);
     let saving = gross - plan.cost;
-    if saving <= best.saving {
-        return best;
+    if saving <= most {
+        return None;
     }
-    let choice = plan.choice;
-    Best {
-        cube,
+    Some(Best {
+        cube: cube as u8,
         saving,
-        inner: plan.cost,
-        choice,
+        inner: plan,
+    })
+}
+
+// What the best so far saves, 0 where there is none.
+fn saved(best: Option<Best>) -> usize
+    ensures { result ≡ (best_of best).saving }
+{
+    match best {
+        Some(best) => best.saving,
+        None => 0,
     }
 }
 
 // What a cube saves before its inner form is paid for: the raw cost of the covered monomials, less 1, less the cube's cost.
 fn gross_saving(form: Form, cube: usize, lookup: &Lookup) -> usize
-    requires { (lookup.now ≡ lookup_words) × (0 < cube) × (cube < mask_count) × (paper.is_cube (masks form) cube ≡ true) }
+    requires { (0 < cube) × (cube < mask_count) × (paper.is_cube (masks form) cube ≡ true) }
     ensures { result ≡ gross cube (masks form) }
 {
     2 * form.covered_literals(cube, lookup) - 2 - product_cost(cube)

@@ -3,38 +3,46 @@
 --   word_count-most           == at most 16 flags have at most 1024 words
 --   held-suc                 == one word more
 --   held-keep-suc, held-le   == those that pass a test, with one word more, and with more words
---   length-held, held-room   == how many, counted by words, and at most 64 a word
---   block-is                 == the masks of one word are its ones
+--   ones-held                == how many, by the ones of the words
+--   block i ws               == the masks of word i, counted from the word's first
 --   block_none, block-some   == those of degree d in word i: none where i has more ones already, else those of degree d less the ones of i
 --   ascending-held           == they ascend
 --   constant-held            == the constant is coefficient 0
 --   held-form                == the words of n flags hold its form, if no coefficient is stray
+--   held-lent                == so do the words that lent coefficients were found to have
 --   below-held               == the masks of n flags are below 2^n
 use mathlib.Core.Bool.{Bool, true, false, not, ◌&&◌}
 use mathlib.Core.List.{List, [], ◌++◌, map, append-nil}
-use mathlib.Core.Path.{◌≡◌, sym, ap, subst, ◌∙◌}
-use Prim.Native.Nat.{ℕ, suc, ◌+◌, ◌-◌, ◌*◌, ◌^◌, ◌≤◌, ◌<◌}
+use mathlib.Core.Path.{◌≡◌, refl, sym, ap, subst, ◌∙◌}
+use Prim.Native.Nat.{ℕ, zero, suc, ◌+◌, ◌-◌, ◌*◌, ◌^◌, ◌≤◌, ◌<◌}
 use native.Mathlib.Decide.{le_ind}
 use native.Mathlib.Nat.{le_refl}
+use native.Mathlib.Numerals.{add-one}
 use native.Mathlib.Omega.{arith}
 use lib.Count.{ones, ones_cat}
 use lib.Dec.{eqb, leb}
-use lib.ListN.{length, get_or, length-append, length-map}
+use lib.ListN.{length, get_or, take, length-append, length-map}
+use lib.Seq.{take_all}
+use Rattle.std.specs.List.{sum_by}
+use Rattle.std.proofs.lemmas.List.Sums.{sum_by_more}
 use lib.Pow.{pow_mono}
 use borrow.Author.Tests.{ltb-true, leb-true, lt-ltb, eqb-true, eq-eqb, ne_eqb}
 use Rattle.bits.specs.Bit.{bit}
 use Rattle.bits.specs.Word.{places}
 use Rattle.bits.specs.Range.{from, upto, keep, mem, Ascending, Below}
 use Rattle.bits.proofs.Truth.{and-true-l, and_true_r, bool-ext}
-use Rattle.bits.proofs.Range.{length_from, length-keep, from-add, upto_add}
+use Rattle.bits.proofs.Range.{from-add, upto_add}
 use Rattle.bits.proofs.Range.{keep_append, keep-map, keep-ext, keep-none, mem-all, mem-keep, mem-from, mem-upto}
 use Rattle.bits.proofs.Ascending.{ascending-from, ascending-keep, below-upto, below-keep, below-mem}
 use Rattle.rules.specs.Coefficient.{word_count, packed, stray}
 use Rattle.rules.specs.Monomial.{form, constant}
+use Rattle.rules.specs.Outcome.{gives}
+use Rattle.packed_anf.specs.Rows.{lent_coefficients}
+use Rattle.packed_anf.proofs.Rows.{given-coefficients, packed-take}
 use Rattle.laws.proofs.transform.Packed.{word_count-room, packed-at, not-stray}
 use Rattle.mask_words.specs.inner.Degree.{of_degree}
-use Rattle.mask_words.specs.Lookup.{mask_count}
-use Rattle.anf_form.specs.Inner.{held, block, of_block}
+use Rattle.bits.proofs.Word.{below-places, ones-places}
+use Rattle.anf_form.specs.Inner.{held, of_block}
 
 pub word_count-most : (n : ℕ) → n ≤ 16 → word_count n ≤ 1024
 unfolding word_count
@@ -42,26 +50,25 @@ word_count-most n h = let p : 2 ^ n ≤ 2 ^ 16 = pow_mono h in omega arith
 
 -- ---- one word
 
-pub block-is : (i : ℕ) (ws : List ℕ) → places mask_count (get_or ws i 0) ≡ block i ws
-unfolding places
-block-is i ws =
-    keep-ext (bit (get_or ws i 0)) (λ j. packed ws (64 * i + j)) (upto 64) (λ j m. sym (packed-at ws i j (ltb-true j 64 (sym (mem-upto 64 j) ∙ m))))
+-- the masks of word i
+abbrev pub block : ℕ → List ℕ → List ℕ
+block i ws = places 64 (get_or ws i 0)
 
-module _ (d i : ℕ) (ws : List ℕ) where
-  inside : (j : ℕ) → mem j (block i ws) ≡ true → j < 64
-  inside j m = below-mem 64 (block i ws) j (below-keep 64 (λ j. packed ws (64 * i + j)) (upto 64) (below-upto 64)) m
+module _ (d i w : ℕ) where
+  inside : (j : ℕ) → mem j (places 64 w) ≡ true → j < 64
+  inside j m = below-mem 64 (places 64 w) j (below-places 64 w) m
 
   ones-block : (j : ℕ) → j < 64 → ones (64 * i + j) ≡ ones i + ones j
   ones-block j h = ap (λ (n : ℕ). ones (n + j)) (omega arith) ∙ ones_cat 6 i j h
 
-  pub block_none : d < ones i → of_block d i ws ≡ []
+  pub block_none : d < ones i → of_block d i w ≡ []
   block_none h =
-      keep-none (λ j. eqb (ones (64 * i + j)) d) (block i ws)
-      (mem-all _ (block i ws) (λ j m. ap not (ne_eqb (ones (64 * i + j)) d (λ e. omega (arith, ones-block j (inside j m))))))
+      keep-none (λ j. eqb (ones (64 * i + j)) d) (places 64 w)
+      (mem-all _ (places 64 w) (λ j m. ap not (ne_eqb (ones (64 * i + j)) d (λ e. omega (arith, ones-block j (inside j m))))))
 
-  pub block-some : ones i ≤ d → of_degree (d - ones i) (block i ws) ≡ of_block d i ws
+  pub block-some : ones i ≤ d → of_degree (d - ones i) (places 64 w) ≡ of_block d i w
   block-some h =
-      keep-ext (λ j. eqb (ones j) (d - ones i)) (λ j. eqb (ones (64 * i + j)) d) (block i ws) (λ j m. shifted j (inside j m))
+      keep-ext (λ j. eqb (ones j) (d - ones i)) (λ j. eqb (ones (64 * i + j)) d) (places 64 w) (λ j m. shifted j (inside j m))
     where
       shifted : (j : ℕ) → j < 64 → eqb (ones j) (d - ones i) ≡ eqb (ones (64 * i + j)) d
       shifted j l =
@@ -71,6 +78,12 @@ module _ (d i : ℕ) (ws : List ℕ) where
 -- ---- word by word
 
 module _ (ws : List ℕ) where
+  block-is : (i : ℕ) → keep (λ j. packed ws (64 * i + j)) (upto 64) ≡ block i ws
+  unfolding places
+  block-is i =
+      keep-ext (λ j. packed ws (64 * i + j)) (bit (get_or ws i 0)) (upto 64)
+      (λ j m. packed-at ws i j (ltb-true j 64 (sym (mem-upto 64 j) ∙ m)))
+
   -- the masks that word k holds
   abbrev masks-at : ℕ → List ℕ
   masks-at k = map (λ j. 64 * k + j) (block k ws)
@@ -80,7 +93,8 @@ module _ (ws : List ℕ) where
       let e : 64 * suc k ≡ 64 * k + 64 = omega arith in
       ap (λ (n : ℕ). keep (packed ws) (upto n)) e ∙ ap (keep (packed ws)) (upto_add (64 * k) 64)
       ∙ keep_append (packed ws) (upto (64 * k)) (map (λ j. 64 * k + j) (upto 64))
-      ∙ ap (λ (l : List ℕ). held k ws ++ l) (keep-map (packed ws) (λ j. 64 * k + j) (upto 64))
+      ∙ ap (λ (l : List ℕ). held k ws ++ l)
+      (keep-map (packed ws) (λ j. 64 * k + j) (upto 64) ∙ ap (map (λ j. 64 * k + j)) (block-is k))
 
   pub ascending-held : (k : ℕ) → Ascending (held k ws)
   ascending-held k = ascending-keep (packed ws) (upto (64 * k)) (ascending-from 0 (64 * k))
@@ -89,12 +103,26 @@ module _ (ws : List ℕ) where
   constant-held k h =
       mem-keep (packed ws) (upto (64 * k)) 0 ∙ ap (λ (b : Bool). b && packed ws 0) (mem-upto (64 * k) 0 ∙ lt-ltb 0 (64 * k) (omega arith))
 
-  pub length-held : (k : ℕ) → length (held (suc k) ws) ≡ length (held k ws) + length (block k ws)
+  length-held : (k : ℕ) → length (held (suc k) ws) ≡ length (held k ws) + length (block k ws)
   length-held k =
       omega (arith, ap length (held-suc k), length-append (held k ws) (masks-at k), length-map (block k ws) (λ j. 64 * k + j))
 
-  pub held-room : (k : ℕ) → length (held k ws) ≤ 64 * k
-  held-room k = omega (arith, length-keep (packed ws) (upto (64 * k)), length_from 0 (64 * k))
+  module _ (small : (i : ℕ) → get_or ws i 0 < 2 ^ 64) where
+    counted : (k : ℕ) → k ≤ length ws → sum_by ones (take k ws) ≡ length (held k ws)
+    unfolding keep from
+    counted zero h = refl
+    counted (suc k) h =
+        omega (
+          arith,
+          ap (λ (n : ℕ). sum_by ones (take n ws)) (sym (add-one k)),
+          sum_by_more ones ws k 0 (omega arith),
+          counted k (omega arith),
+          length-held k,
+          ones-places 64 (get_or ws k 0) (small k),
+        )
+
+    pub ones-held : sum_by ones ws ≡ length (held (length ws) ws)
+    ones-held = ap (sum_by ones) (sym (take_all (length ws) ws (omega arith))) ∙ counted (length ws) (omega arith)
 
   module _ (p : ℕ → Bool) where
     pub held-keep-suc : (k : ℕ) → keep p (held (suc k) ws) ≡ keep p (held k ws) ++ map (λ j. 64 * k + j) (keep (λ j. p (64 * k + j)) (block k ws))
@@ -142,3 +170,17 @@ module _ (ws : List ℕ) where
     pub below-held : Below (2 ^ n) (held (word_count n) ws)
     unfolding form
     below-held = subst (Below (2 ^ n)) held-form (below-keep (2 ^ n) (packed ws) (upto (2 ^ n)) (below-upto (2 ^ n)))
+
+-- the words that lent coefficients were found to have hold the form
+pub held-lent : (limit n count : ℕ) (ws us : List ℕ) → gives (count, us) ≡ lent_coefficients limit n ws
+    → length us ≡ word_count count → stray count us ≡ false → form n (packed ws) ≡ held (length us) us
+unfolding form
+held-lent limit n count ws us e all clean =
+    let given = given-coefficients limit n ws e in
+    let same : count ≡ n = ap (λ (p : ℕ × List ℕ). p.0) given in
+    let front : us ≡ take (word_count n) ws = ap (λ (p : ℕ × List ℕ). p.1) given in
+    let k = word_count n in
+    keep-ext (packed ws) (packed (take k ws)) (upto (2 ^ n))
+    (λ m h. sym (packed-take k ws m (let u = ltb-true m (2 ^ n) (sym (mem-upto (2 ^ n) m) ∙ h) in omega (arith, u, word_count-room n))))
+    ∙ ap (λ (l : List ℕ). form n (packed l)) (sym front) ∙ ap (λ (m : ℕ). form m (packed us)) (sym same)
+    ∙ held-form us count clean ∙ ap (λ (j : ℕ). held j us) (sym all)

@@ -1,4 +1,6 @@
 pub mod Held
-pub mod Listed
-pub mod Bulk
 pub mod Injective
+pub mod Rest
+pub mod Bulk
+pub mod Listed
+pub mod Again

@@ -1,93 +1,80 @@
--- What listing tells, and what it leaves in the lent buffer: a refusal leaves the buffer, and a listing stands at its front. It rests on the rows of
--- the calls (laws, Checked), on the masks that words hold (Held) and on the laws of outcomes (laws, Outcome).
---   Told n ws out after r        == both promises of listing, for the answer r and the buffer after it
---   told-refusal                 == a refusal
---   Passed n k ws                == no row refuses the coefficients, and k words are needed
---   masks-below, masks-count     == the masks that they hold: below 2^n, and the monomials and the constant together
+-- What listing tells, and what it leaves in the lent buffer, past the rows of the coefficients: a refusal leaves the buffer, and a listing stands at
+-- its front. It rests on the rows of the calls (laws, Checked; packed_anf, Rows), on the masks that words hold (Held) and on the laws of outcomes
+-- (laws, Outcome).
+--   masks-count                  == the monomials that the words hold, and the constant together
 --   told-short, told-listing     == the buffer is too short for the monomials, or holds them
 use mathlib.Core.Bool.{Bool, false}
 use mathlib.Core.List.{List}
 use mathlib.Core.Path.{◌≡◌, sym, ap, ap₂, ◌∙◌}
-use Prim.Native.Nat.{ℕ, ◌+◌, ◌^◌, ◌≤◌, ◌<◌}
+use Prim.Native.Nat.{ℕ, ◌+◌, ◌≤◌, ◌<◌}
 use native.Mathlib.Omega.{arith}
 use lib.Dec.{eqb}
 use lib.ListN.{length}
 use lib.Seq.{sets}
 use Rattle.bits.specs.Bit.{digit}
-use Rattle.bits.specs.Range.{Below}
 use Rattle.bits.proofs.Bit.{digit-is}
 use Rattle.rules.specs.Calls as paper
 use Rattle.rules.specs.Coefficient.{word_count, packed, stray}
 use Rattle.rules.specs.Limits.{form_flags, short_output}
-use Rattle.rules.specs.Monomial.{constant, monomials, ordered}
+use Rattle.rules.specs.Monomial.{form, constant, monomials, ordered}
 use Rattle.rules.specs.Outcome.{Outcome, gives, refuses, front, left, ◌then◌}
-use Rattle.laws.proofs.calls.Checked.{coefficients-clean, room-short, room-enough}
-use Rattle.mask_words.proofs.Degrees.{length-monomials}
-use Rattle.anf_form.proofs.Held.{held-form, below-held, ascending-held, constant-held}
+use Rattle.laws.proofs.calls.Checked.{room-short, room-enough}
 use Rattle.laws.proofs.calls.Outcome.{front-written}
 use Rattle.laws.proofs.form.Ordered.{length-ordered}
 use Rattle.laws.proofs.transform.Packed.{word_count-pos}
-use Rattle.anf_form.specs.Answers.{listing_of}
+use Rattle.mask_words.proofs.Degrees.{length-monomials}
+use Rattle.packed_anf.specs.Rows.{lent_coefficients}
+use Rattle.packed_anf.proofs.Rows.{past_coefficients}
+use Rattle.anf_form.proofs.Held.{held-lent, ascending-held, constant-held}
 use Rattle.anf_form.specs.Inner.{held}
-use Rattle.anf_form.specs.declared.Listing.{Listing}
-use Rattle.anf_form.specs.declared.Listing.TheVariants.{Listed, Refused}
 
-abbrev pub Told : ℕ → List ℕ → List ℕ → List ℕ → Listing → Type 0
-Told n ws out after r =
-    (listing_of after r ≡ paper.listing n ws (length out)) × (after ≡ left out (paper.listing n ws (length out) then (λ l. gives l.masks)))
-
-abbrev placed : List ℕ → Outcome paper.Listing → List ℕ
+-- the buffer after an outcome of listing
+abbrev pub placed : List ℕ → Outcome paper.Listing → List ℕ
 placed out o = left out (o then (λ l. gives l.masks))
 
-pub told-refusal : (n : ℕ) (ws out : List ℕ) (k p : ℕ) → paper.listing n ws (length out) ≡ refuses k p
-    → Told n ws out out (Refused record { number = k; place = p })
-told-refusal n ws out k p e = (sym e, ap (placed out) (sym e))
+module _ (n count : ℕ) (ws us out : List ℕ) (given : gives (count, us) ≡ lent_coefficients form_flags n ws)
+    (all : length us ≡ word_count count) (clean : stray count us ≡ false) where
+  abbrev words : List ℕ
+  words = held (length us) us
 
--- past the rows of the coefficients, with k words
-pub record Passed (n k : ℕ) (ws : List ℕ) : Type 0 where
-  pub few : n ≤ form_flags
-  pub words : k ≡ word_count n
-  pub needed : k ≤ length ws
-  pub clean : stray n ws ≡ false
-
-module _ (n k : ℕ) (ws : List ℕ) (p : Passed n k ws) where
   abbrev masks : List ℕ
-  masks = ordered (monomials (held k ws))
+  masks = ordered (monomials words)
 
-  constant-is : constant (held k ws) ≡ packed ws 0
-  constant-is = constant-held ws k (omega (arith, word_count-pos n))
+  constant-is : constant words ≡ packed us 0
+  constant-is = constant-held us (length us) (omega (arith, all, word_count-pos count))
 
-  pub masks-below : Below (2 ^ n) (held k ws)
-  masks-below = rw p.words (below-held ws n p.clean)
-
-  pub masks-count : length masks + digit (packed ws 0) ≡ length (held k ws)
+  pub masks-count : length masks + digit (packed us 0) ≡ length (held (length us) us)
   masks-count =
-      omega (arith, length-ordered (monomials (held k ws)), length-monomials (held k ws) (ascending-held ws k), ap digit constant-is)
+      omega (arith, length-ordered (monomials words), length-monomials words (ascending-held us (length us)), ap digit constant-is)
 
-  module _ (out : List ℕ) where
-    past : paper.listing n ws (length out) ≡ paper.with_room (length out) masks (gives (paper.listed (held k ws)))
-    unfolding paper.listing paper.listed
-    past =
-        coefficients-clean form_flags n ws _ p.few (omega arith) p.clean
-        ∙ ap (λ (l : List ℕ). paper.with_room (length out) (ordered (monomials l)) (gives (paper.listed l)))
-        (held-form ws n p.clean ∙ ap (λ (i : ℕ). held i ws) (sym p.words))
+  past : paper.listing n ws (length out) ≡ paper.with_room (length out) masks (gives (paper.listed words))
+  unfolding paper.listing paper.listed
+  past =
+      let last = paper.with_room (length out) (paper.listed (form n (packed ws))).masks (gives (paper.listed (form n (packed ws)))) in
+      sym (past_coefficients form_flags n ws _ _ last given)
+      ∙ ap (λ (l : List ℕ). paper.with_room (length out) (ordered (monomials l)) (gives (paper.listed l)))
+      (held-lent form_flags n count ws us given all clean)
 
-    module _ (count : ℕ) (c : count + digit (packed ws 0) ≡ length (held k ws)) where
-      counted : count ≡ length masks
-      counted = omega (arith, masks-count)
+  module _ (k : ℕ) (c : k + digit (packed us 0) ≡ length (held (length us) us)) where
+    counted : k ≡ length masks
+    counted = omega (arith, masks-count)
 
-      pub told-short : length out < count → Told n ws out out (Refused record { number = short_output; place = count })
-      told-short h =
-          told-refusal n ws out short_output count
-          (past ∙ room-short (length out) masks _ (omega (arith, counted)) ∙ ap {B = Outcome paper.Listing} (refuses short_output) (sym counted))
+    pub told-short : length out < k
+        → (refuses short_output k ≡ paper.listing n ws (length out)) × (out ≡ placed out (paper.listing n ws (length out)))
+    told-short h =
+        let short = past ∙ room-short (length out) masks _ (omega (arith, counted)) in
+        let e = short ∙ ap {B = Outcome paper.Listing} (refuses short_output) (sym counted) in
+        (sym e, ap (placed out) (sym e))
 
-      pub told-listing : (d : ℕ) (after : List ℕ) → d ≡ digit (packed ws 0) → count ≤ length out → after ≡ sets out 0 masks
-          → Told n ws out after (Listed record { constant = eqb d 1; count = count })
-      unfolding paper.listed
-      told-listing d after b h w =
-          let given = past ∙ room-enough (length out) masks _ (omega (arith, counted)) in
-          let flag = digit-is (packed ws 0) _ b ∙ sym constant-is in
-          let listed = ap₂ front counted w ∙ front-written masks out (omega (arith, counted)) in (
-            ap₂ {C = Outcome paper.Listing} (λ (q : Bool) (l : List ℕ). gives record { constant = q; masks = l }) flag listed ∙ sym given,
-            w ∙ ap (placed out) (sym given),
-          )
+    pub told-listing : (d : ℕ) (after : List ℕ) → d ≡ digit (packed us 0) → k ≤ length out
+        → after ≡ sets out 0 (ordered (monomials (held (length us) us)))
+        → (gives record { constant = eqb d 1; masks = front k after } ≡ paper.listing n ws (length out))
+        × (after ≡ placed out (paper.listing n ws (length out)))
+    unfolding paper.listed
+    told-listing d after b h w =
+        let given = past ∙ room-enough (length out) masks _ (omega (arith, counted)) in
+        let flag = digit-is (packed us 0) _ b ∙ sym constant-is in
+        let listed = ap₂ front counted w ∙ front-written masks out (omega (arith, counted)) in (
+          ap₂ {C = Outcome paper.Listing} (λ (q : Bool) (l : List ℕ). gives record { constant = q; masks = l }) flag listed ∙ sym given,
+          w ∙ ap (placed out) (sym given),
+        )

@@ -1,57 +1,49 @@
-// Monomials degree by degree. The flags of a mask above the six of its word's form are the word's index: a mask of degree d in word i is one of
-// degree d - ones(i) in that form. So each set coefficient is visited once. It rests on the forms of the words (`words`).
-ghost use Rattle.std.specs.Prelude.{map, ◌≡◌, ◌+◌, ◌*◌, ◌^◌, ◌≤◌, ◌<◌, length};
+// Monomials degree by degree. The flags of a mask above the six of its word are the word's index: a mask of degree d in word i is one of degree
+// d - ones(i) in that word. So each set coefficient is visited once. It rests on `form`, which lists the masks of one degree in a word.
+ghost use Rattle.std.specs.Prelude.{map, ◌≡◌, ◌+◌, ◌*◌, ◌≤◌, ◌<◌, length};
 ghost use Rattle.std.proofs.lemmas.List.Edits.{sets};
-ghost use Rattle.bits.specs.Range.{Below};
 ghost use Rattle.bits.specs.Stored.{Room, Stored};
-ghost use Rattle.rules.specs.Limits.{form_flags};
 ghost use Rattle.rules.specs.Monomial.{monomials, ordered};
 ghost use Rattle.mask_words.specs.inner.Degree.{of_degree};
 ghost use Rattle.anf_form.specs.Inner.{held, of_block};
 
-use crate::words::form_at;
+use form::Form;
+use packed_anf::lent::Coefficients;
+use rules::FORM_FLAGS;
 
-// All monomials, by degree from 1 to `flags`, then by mask.
-pub fn list(flags: usize, words: usize, coefficients: &[u64], out: &mut [u32])
-    requires flags_le_form_flags { (flags ≤ form_flags) × (words ≤ length coefficients.now) × (words ≤ 1024) }
-    requires below { Below (2 ^ flags) (held words coefficients.now) }
-    requires coefficients_in_bounds { length (monomials (held words coefficients.now)) ≤ length out.old }
-    ensures { out.new ≡ sets out.old 0 (ordered (monomials (held words coefficients.now))) }
+// All monomials, by degree from 1 to the number of flags, then by mask, at the front of `out`.
+pub fn list(coefficients: Coefficients<'_, FORM_FLAGS>, out: &mut [u32])
+    requires { length (monomials (held (length coefficients.words.now) coefficients.words.now)) ≤ length out.old }
+    ensures { out.new ≡ sets out.old 0 (ordered (monomials (held (length coefficients.entry.words.now) coefficients.entry.words.now))) }
 {
-    let mut at = 0;
-    for degree in 1..flags + 1 {
-        at = list_degree(degree, words, coefficients, out, at);
+    let mut count = 0;
+    for degree in 1..coefficients.flags.count + 1 {
+        count += list_degree(degree, coefficients.words, &mut out[count..]);
     }
 }
 
-// The masks of one degree, from place `at` of `out` on; the place after them.
-fn list_degree(
-    degree: usize,
-    words: usize,
-    coefficients: &[u64],
-    out: &mut [u32],
-    at: usize,
-) -> usize
-    requires words_in_bounds { (words ≤ length coefficients.now) × (words ≤ 1024) }
-    requires room { Room (of_degree degree (held words coefficients.now)) at out.old }
-    ensures { Stored (of_degree degree (held words coefficients.now)) at result out.old out.new }
+// The masks of one degree, at the front of `out`; how many there are.
+fn list_degree(degree: usize, words: &[u64], out: &mut [u32]) -> usize
+    requires few { length words.now ≤ 1024 }
+    requires room { Room (of_degree degree (held (length words.now) words.now)) 0 out.old }
+    ensures { Stored (of_degree degree (held (length words.now) words.now)) 0 result out.old out.new }
 {
-    let mut next = at;
-    for i in 0..words {
-        next = list_block(degree, i, coefficients, out, next);
+    let mut count = 0;
+    for (i, word) in words.iter().enumerate() {
+        count += list_block(degree, i, *word, &mut out[count..]);
     }
-    next
+    count
 }
 
 // Those in word i.
-fn list_block(degree: usize, i: usize, coefficients: &[u64], out: &mut [u32], at: usize) -> usize
-    requires i_in_bounds { (i < length coefficients.now) × (i < 1024) }
-    requires room { Room (of_block degree i coefficients.now) at out.old }
-    ensures { Stored (map (λ j. 64 * i + j) (of_block degree i coefficients.now)) at result out.old out.new }
+fn list_block(degree: usize, i: usize, word: u64, out: &mut [u32]) -> usize
+    requires few { i < 1024 }
+    requires room { Room (of_block degree i word) 0 out.old }
+    ensures { Stored (map (λ j. 64 * i + j) (of_block degree i word)) 0 result out.old out.new }
 {
     let above = mask_words::flag_count(i);
     if degree < above {
-        return at;
+        return 0;
     }
-    form_at(i, coefficients).list_degree(degree - above, 64 * i, out, at)
+    Form::of_coefficients(word).list_degree(degree - above, 64 * i, out, 0)
 }

@@ -2,20 +2,21 @@
 -- coefficients in the words, and block after block of 2 ^ (j + 1) words does that for all. It rests on the laws of bits (bits, Bit and Mask), of
 -- packed coefficients (laws, Packed) and of one flag (Flag).
 --   joined-low, joined-high    == a word whose place lacks bit j, and one whose place has it
---   Joined j ws base vs        == vs are the words ws, joined at bit j up to base, where a block begins
---   joined-none, joined-next   == before the first block, and one block more
---   joined-room                == a block that begins in the words ends in them
+--   pairs-all, pairs-room      == the pairs of halves are all words, and each one ends in the words
+--   joined-next                == one pair more is joined
 --   holds-joined, holds-next   == words that are all joined at bit j hold one flag more
 use mathlib.Core.Bool.{Bool, true, false, ◌&&◌}
 use mathlib.Core.List.{List}
 use mathlib.Core.Path.{◌≡◌, refl, sym, ap, ap₂, ◌∙◌}
 use Prim.Native.Nat.{ℕ, suc, ◌+◌, ◌-◌, ◌*◌, ◌/◌, ◌%◌, ◌^◌, ◌≤◌, ◌<◌}
-use native.Mathlib.Nat.{add-zero, mul_assoc, mul-le-mul_right, lt_of_mul-lt-mul_right, pow-succ'}
+use native.Mathlib.Nat.{add-zero, mul-le-mul_left, pow-succ'}
 use native.Mathlib.Omega.{arith}
 use lib.Bits.{bit_xor}
 use lib.Dec.{ltb, eqb}
-use lib.ListN.{length, get_or}
+use lib.ListN.{length, get_or, take, drop, length-drop}
 use lib.Pow.{pow-add}
+use lib.Seq.{length-take-le}
+use borrow.Rule.Slice.PartMut.{put_mid}
 use borrow.Author.Tests.{ltb-true, ltb-false}
 use Rattle.bits.specs.Bit.{◌⊕◌, bit}
 use Rattle.bits.proofs.Truth.{xor-false}
@@ -25,7 +26,7 @@ use Rattle.rules.specs.Coefficient.{packed}
 use Rattle.laws.proofs.transform.Packed.{packed-at}
 use Rattle.anf_transform.specs.inner.Change.{Changed}
 use Rattle.anf_transform.specs.inner.Flag.{along, lowest, pair_xor, joined, Holds}
-use Rattle.anf_transform.proofs.Change.{changed-none}
+use Rattle.anf_transform.proofs.Written.{part-word, written-same, written-before, written-inside, written-after}
 use Rattle.anf_transform.proofs.Flag.{lowest_step}
 
 module _ (j : ℕ) (ws : List ℕ) (i : ℕ) where
@@ -40,57 +41,76 @@ module _ (j : ℕ) (ws : List ℕ) (i : ℕ) where
 bit-block : (j a r : ℕ) → r < 2 ^ j → bit (a * 2 ^ j + r) j ≡ eqb (a % 2) 1
 bit-block j a r h = ap (bit (a * 2 ^ j + r)) (sym (add-zero j)) ∙ bit_up a j r 0 h ∙ bit-first a
 
-pub record Joined (j : ℕ) (ws : List ℕ) (base : ℕ) (vs : List ℕ) : Type 0 where
-  pub block : ℕ
-  pub begins : base ≡ block * 2 * 2 ^ j
-  pub changed : Changed 0 base (joined j ws) ws vs
+-- the words of the first i pairs of halves are joined
+abbrev Joined : ℕ → List ℕ → ℕ → List ℕ → Type 0
+Joined j ws i vs = Changed 0 (2 * 2 ^ j * i) (joined j ws) ws vs
 
-pub joined-none : (j : ℕ) (ws : List ℕ) → Joined j ws 0 ws
-joined-none j ws = record { block = 0; begins = omega arith; changed = changed-none 0 (joined j ws) ws }
+module _ (j n : ℕ) (h : j < n) where
+  pub pairs-all : 2 * 2 ^ j * 2 ^ (n - 1 - j) ≡ 2 ^ n
+  pairs-all =
+      let e : n ≡ suc j + (n - 1 - j) = omega arith in
+      ap (λ (x : ℕ). x * 2 ^ (n - 1 - j)) (sym (pow-succ' 2 j)) ∙ sym (ap (λ (x : ℕ). 2 ^ x) e ∙ pow-add 2 (suc j) (n - 1 - j))
 
-module _ (j : ℕ) (ws : List ℕ) (base : ℕ) (vs : List ℕ) (t : Joined j ws base vs) where
-  pub joined-room : (n : ℕ) → j < n → base < 2 ^ n → base + 2 * 2 ^ j ≤ 2 ^ n
-  joined-room n h l =
-      let k = n - suc j in
-      let e : n ≡ k + suc j = omega arith in
-      let whole : 2 ^ n ≡ 2 ^ k * 2 * 2 ^ j =
-      ap (λ (x : ℕ). 2 ^ x) e ∙ pow-add 2 k (suc j) ∙ ap (λ (x : ℕ). 2 ^ k * x) (pow-succ' 2 j) ∙ sym (mul_assoc (2 ^ k) 2 (2 ^ j)) in
-      let less : t.block * 2 < 2 ^ k * 2 = lt_of_mul-lt-mul_right (2 ^ j) (omega (arith, t.begins)) in
-      let room : (t.block + 1) * 2 * 2 ^ j ≤ 2 ^ k * 2 * 2 ^ j = mul-le-mul_right (2 ^ j) (omega arith) in
-      omega (arith, t.begins)
+  pub pairs-room : (i : ℕ) → i < 2 ^ (n - 1 - j) → 2 * 2 ^ j * i + 2 * 2 ^ j ≤ 2 ^ n
+  pairs-room i l =
+      let most : i + 1 ≤ 2 ^ (n - 1 - j) = omega arith in
+      omega (arith, pairs-all, mul-le-mul_left (2 * 2 ^ j) most)
 
-  pub joined-next : (us : List ℕ) → Changed (base + 2 ^ j) (base + 2 * 2 ^ j) (pair_xor (2 ^ j) vs) vs us → Joined j ws (base + 2 * 2 ^ j) us
-  joined-next us u =
-      record {
-        block = t.block + 1;
-        begins = omega (arith, t.begins);
-        changed = record {
-          same = u.same ∙ t.changed.same;
-          before = λ i l. absurd (omega arith);
-          here = λ i k l. done i l (ltb i base) refl;
-          after = λ i l. u.after i l ∙ t.changed.after i (omega arith);
-        };
-      }
+-- one pair more: its words, from place s on, are k, and each half has d
+module _ (j i s k d : ℕ) (ws vs us : List ℕ) (t : Joined j ws i vs) (begins : s ≡ 2 * 2 ^ j * i) (half : d ≡ 2 ^ j)
+    (size : k ≡ 2 * d) (within : s + k ≤ length ws)
+    (u : Changed d (2 * d) (pair_xor d (take k (drop s vs))) (take k (drop s vs)) us) where
+  -- bit j of a place in the pair's first half, and in its second
+  flag : (m r b : ℕ) → m ≡ (i * 2 + b) * 2 ^ j + r → b < 2 → r < 2 ^ j → bit m j ≡ eqb b 1
+  flag m r b e l h =
+      let d : (i * 2 + b) % 2 ≡ b = omega arith in
+      ap (λ (x : ℕ). bit x j) e ∙ bit-block j (i * 2 + b) r h ∙ ap (λ (x : ℕ). eqb x 1) d
+
+  room : s + k ≤ length vs
+  room = omega (arith, t.same)
+
+  part : length us ≡ k
+  part = u.same ∙ length-take-le k (drop s vs) (omega (arith, length-drop s vs, room))
+
+  after : List ℕ
+  after = put_mid s k vs us
+
+  inside : (r : ℕ) → r < k → get_or after (s + r) 0 ≡ joined j ws (s + r)
+  unfolding after
+  inside r h = go (ltb r (2 ^ j)) refl
     where
-      -- bit j of a place in a block's first half, and in its second
-      flag : (i r b : ℕ) → i ≡ (t.block * 2 + b) * 2 ^ j + r → b < 2 → r < 2 ^ j → bit i j ≡ eqb b 1
-      flag i r b e s l =
-          let d : (t.block * 2 + b) % 2 ≡ b = omega arith in
-          ap (λ (x : ℕ). bit x j) e ∙ bit-block j (t.block * 2 + b) r l ∙ ap (λ (x : ℕ). eqb x 1) d
+      word : (q : ℕ) → q < k → get_or (take k (drop s vs)) q 0 ≡ get_or ws (s + q) 0
+      word q l = part-word s k vs q 0 l ∙ t.after (s + q) (omega arith)
 
-      later : (i : ℕ) → i < base + 2 * 2 ^ j → base ≤ i → (b : Bool) → ltb i (base + 2 ^ j) ≡ b → get_or us i 0 ≡ joined j ws i
-      later i l k true e =
-          let s = ltb-true i (base + 2 ^ j) e in
-          let low : bit i j ≡ false = flag i (i - base) 0 (omega (arith, t.begins)) (omega arith) (omega arith) in
-          u.before i s ∙ t.changed.after i k ∙ sym (joined-low j ws i low)
-      later i l k false e =
-          let s = ltb-false i (base + 2 ^ j) e in
-          let up : bit i j ≡ true = flag i (i - base - 2 ^ j) 1 (omega (arith, t.begins)) (omega arith) (omega arith) in
-          u.here i s l ∙ ap₂ bit_xor (t.changed.after i k) (t.changed.after (i - 2 ^ j) (omega arith)) ∙ sym (joined-high j ws i up)
+      go : (b : Bool) → ltb r (2 ^ j) ≡ b → get_or after (s + r) 0 ≡ joined j ws (s + r)
+      go true e =
+          let l = ltb-true r (2 ^ j) e in
+          written-inside s k vs us room part r h ∙ u.before r (omega arith) ∙ word r h
+          ∙ sym (joined-low j ws (s + r) (flag (s + r) r 0 (omega arith) (omega arith) l))
+      go false e =
+          let l = ltb-false r (2 ^ j) e in
+          let back : s + r - 2 ^ j ≡ s + (r - d) = omega arith in
+          written-inside s k vs us room part r h ∙ u.here r (omega arith) (omega arith)
+          ∙ ap₂ bit_xor (word r h) (word (r - d) (omega arith) ∙ ap (λ (x : ℕ). get_or ws x 0) (sym back))
+          ∙ sym (joined-high j ws (s + r) (flag (s + r) (r - 2 ^ j) 1 (omega arith) (omega arith) (omega arith)))
 
-      done : (i : ℕ) → i < base + 2 * 2 ^ j → (b : Bool) → ltb i base ≡ b → get_or us i 0 ≡ joined j ws i
-      done i l true e = let s = ltb-true i base e in u.before i (omega arith) ∙ t.changed.here i (omega arith) s
-      done i l false e = later i l (ltb-false i base e) (ltb i (base + 2 ^ j)) refl
+  pub joined-next : Joined j ws (i + 1) (put_mid s k vs us)
+  unfolding after
+  joined-next = record {
+    same = written-same s k vs us room part ∙ t.same;
+    before = λ m l. absurd (omega arith);
+    here = λ m z l. go m l (ltb m s) refl;
+    after = λ m l. written-after s k vs us room part m (omega arith) ∙ t.after m (omega arith);
+  }
+    where
+      go : (m : ℕ) → m < 2 * 2 ^ j * (i + 1) → (b : Bool) → ltb m s ≡ b → get_or (put_mid s k vs us) m 0 ≡ joined j ws m
+      go m l true e =
+          let h = ltb-true m s e in
+          written-before s k vs us room part m h ∙ t.here m (omega arith) (omega arith)
+      go m l false e =
+          let h = ltb-false m s e in
+          let q : s + (m - s) ≡ m = omega arith in
+          ap (λ (x : ℕ). get_or (put_mid s k vs us) x 0) (sym q) ∙ inside (m - s) (omega arith) ∙ ap (joined j ws) q
 
 pub holds-joined : (j : ℕ) (f : ℕ → Bool) (ws vs : List ℕ) → Changed 0 (length ws) (joined j ws) ws vs → Holds f ws → Holds (along (6 + j) f) vs
 unfolding along packed

@@ -1,7 +1,9 @@
 pub mod Flag
 pub mod InWord
-pub mod Change
+pub mod Written
 pub mod AcrossWords
 pub mod WordByWord
 pub mod Unpacked
 pub mod Injective
+pub mod Chunk
+pub mod Again

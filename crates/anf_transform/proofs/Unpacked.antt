@@ -1,16 +1,16 @@
 -- Words that give way to their bits, one entry each, the last word first: what has been done down to word i, one word further, and at the end.
 -- It rests on the laws of runs of stores (bits, Stores) and of coefficient words (laws, Packed; packed_anf, Room).
 --   unpacked n l i                             == l with an entry a bit, from word i's first on
---   unpacked-none, unpacked-more, unpacked-all == no word yet, one word more, and all words
---   get_or-unpacked                              == the words below are as they were
+--   unpacked-none, unpacked-next, unpacked-all == no word yet, one word more, and all words
 use mathlib.Core.List.{List, ◌++◌, map, map-map, map-append}
 use mathlib.Core.Logic.{inl, inr}
 use mathlib.Core.Path.{◌≡◌, sym, ap, ap₂, ◌∙◌}
 use Prim.Native.Nat.{ℕ, ◌+◌, ◌-◌, ◌*◌, ◌^◌, ◌≤◌, ◌<◌, min}
 use native.Mathlib.Nat.{add-zero, min-eq_left, min-eq_right}
 use native.Mathlib.Omega.{arith}
-use lib.ListN.{length, get_or}
-use lib.Seq.{sets}
+use lib.ListN.{length, get_or, take, drop, length-drop}
+use lib.Seq.{sets, length-take-le}
+use borrow.Rule.Slice.PartMut.{put_mid}
 use Rattle.bits.specs.Bit.{bit, digit}
 use Rattle.bits.specs.Range.{from, upto}
 use Rattle.bits.proofs.Range.{from-add, from-map}
@@ -19,6 +19,8 @@ use Rattle.bits.proofs.Tabulated.{length-map-upto, get_or-map-upto, map-upto-of}
 use Rattle.laws.proofs.transform.Packed.{word_count-room, packed-at}
 use Rattle.packed_anf.proofs.Room.{Room, room}
 use Rattle.bits.proofs.Stores.{sets-before, get_or-sets_before}
+use Rattle.anf_transform.proofs.WordByWord.{part-room}
+use Rattle.anf_transform.proofs.Written.{written-sets}
 
 module _ (n : ℕ) (l : List ℕ) where
   -- k entries from place a on
@@ -37,7 +39,7 @@ module _ (n : ℕ) (l : List ℕ) where
   pub unpacked-all : unpacked 0 ≡ sets l 0 (map (λ s. digit (packed l s)) (upto (2 ^ n)))
   unpacked-all = let z : 2 ^ n - 0 ≡ 2 ^ n = omega arith in ap (λ (k : ℕ). sets l 0 (entries 0 k)) z
 
-  pub get_or-unpacked : (i k : ℕ) → k < 64 * i → get_or (unpacked i) k 0 ≡ get_or l k 0
+  get_or-unpacked : (i k : ℕ) → k < 64 * i → get_or (unpacked i) k 0 ≡ get_or l k 0
   get_or-unpacked i k h = get_or-sets_before (entries (64 * i) (2 ^ n - 64 * i)) l (64 * i) k 0 h
 
   -- the bits of word i
@@ -51,7 +53,7 @@ module _ (n : ℕ) (l : List ℕ) where
       ∙ sym (map-map (λ s. digit (packed l s)) (λ j. 64 * i + j) (upto k))
       ∙ ap (map (λ s. digit (packed l s))) (sym (from-map (64 * i) 0 k) ∙ ap (λ (a : ℕ). from a k) (add-zero (64 * i)))
 
-  pub unpacked-more : (i : ℕ) → i < word_count n → sets (unpacked (i + 1)) (64 * i) (bits i (min (2 ^ n) 64)) ≡ unpacked i
+  unpacked-more : (i : ℕ) → i < word_count n → sets (unpacked (i + 1)) (64 * i) (bits i (min (2 ^ n) 64)) ≡ unpacked i
   unfolding from
   unpacked-more i h = go (room n)
     where
@@ -75,3 +77,16 @@ module _ (n : ℕ) (l : List ℕ) where
           ∙ ap (λ (k : ℕ). sets (sets l k (entries (64 * (i + 1)) r)) (64 * i) us) a
           ∙ sets-before us (entries (64 * (i + 1)) r) l (64 * i)
           ∙ ap (sets l (64 * i)) (sym whole)
+
+  -- word i of such a list, whose k entries are written from place s on
+  pub unpacked-next : (i s k : ℕ) (out us : List ℕ) → i < word_count n → 2 ^ n ≤ length out → out ≡ unpacked (i + 1) → s ≡ 64 * i → k ≡ min (2 ^ n) 64
+      → us ≡ map (λ j. digit (bit (get_or out i 0) j)) (upto (length (take k (drop s out)))) → put_mid s k out us ≡ unpacked i
+  unpacked-next i s k out us h complete e begins count given =
+      let room : s + k ≤ length out = omega (arith, part-room n i h k count) in
+      let size : length (take k (drop s out)) ≡ k = length-take-le k (drop s out) (omega (arith, length-drop s out)) in
+      let word : get_or out i 0 ≡ get_or l i 0 = ap (λ (r : List ℕ). get_or r i 0) e ∙ get_or-unpacked (i + 1) i (omega arith) in
+      let stored : us ≡ bits i (min (2 ^ n) 64) =
+      given ∙ ap₂ (λ (w m : ℕ). map (λ j. digit (bit w j)) (upto m)) word (size ∙ count) in
+      let many : length us ≡ k = ap length stored ∙ length-map-upto (min (2 ^ n) 64) (λ j. digit (bit (get_or l i 0) j)) ∙ sym count in
+      written-sets s k out us room many ∙ ap₂ (λ (r : List ℕ) (b : ℕ). sets r b us) e begins
+      ∙ ap (sets (unpacked (i + 1)) (64 * i)) stored ∙ unpacked-more i h

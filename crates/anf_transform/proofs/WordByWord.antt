@@ -1,19 +1,19 @@
 -- The words of a table or of coefficients, one at a time: how much of them each word holds, and lists of words that are the words of a function.
 -- It rests on the laws of coefficient words (laws, Packed; packed_anf, Room) and of bits and words (bits, Bit and Word).
---   packed-append, packed-take == the coefficients of words with more behind them, and of the first words of more
---   part-fits, part-word       == the settings of one word are among all, and the word that holds them
+--   packed-append              == the coefficients of words with more behind them
+--   part-room, part-word       == the settings of one word are among all, and the word that holds them
 --   full-words, cut_word       == words that hold f at every setting are the words of f; where they leave room, once the stray bits are cut off
 use mathlib.Core.Bool.{Bool, true, false, ◌&&◌}
 use mathlib.Core.List.{List, ◌++◌}
 use mathlib.Core.Logic.{inl, inr}
 use mathlib.Core.Path.{◌≡◌, refl, sym, ap, ◌∙◌}
 use Prim.Native.Nat.{ℕ, ◌+◌, ◌*◌, ◌/◌, ◌%◌, ◌^◌, ◌≤◌, ◌<◌, min}
-use native.Mathlib.Nat.{lt_of_lt_of_le, lt_of_le_of_lt, min-eq_left, min-eq_right, min-le_left, min-le_right, mod-le}
+use native.Mathlib.Nat.{lt_of_lt_of_le, min-eq_left, min-eq_right, min-le_left, min-le_right}
 use native.Mathlib.Omega.{arith}
 use lib.Dec.{ltb}
-use lib.ListN.{length, get_or, set, take, length-set, get_or-append}
-use lib.Pow.{pow_mono}
-use lib.Seq.{get_or-set_same, get_or-take}
+use lib.ListN.{length, get_or, set, length-set, get_or-append}
+use lib.Pow.{pow_mono, pow_pos}
+use lib.Seq.{get_or-set_same}
 use borrow.Author.Tests.{ltb-true, ltb-false, lt-ltb, le-ltb}
 use Rattle.bits.specs.Bit.{bit}
 use Rattle.bits.specs.Range.{keep, upto}
@@ -22,9 +22,9 @@ use Rattle.bits.proofs.Bit.{bit-above, bit-mod, bit-mod-high}
 use Rattle.bits.proofs.Word.{bit-word-keep, word-keep-lt, word-ext}
 use Rattle.rules.specs.Coefficient.{word_count, packed, word_of, words}
 use Rattle.laws.proofs.transform.Packed.{word_count-small, word_count-room, packed-at, get_or-words, words_of}
-use Rattle.packed_anf.proofs.Room.{Room, room, word_count-full}
+use Rattle.packed_anf.proofs.Room.{Room, room, word_count-full, few-settings}
 
--- words with more behind them, and the first words of more
+-- words with more behind them
 module _ (n : ℕ) (ws : List ℕ) (m : ℕ) (h : m < 2 ^ n) where
   -- the word that holds coefficient m is one of the words
   place : m / 64 < word_count n
@@ -34,18 +34,17 @@ module _ (n : ℕ) (ws : List ℕ) (m : ℕ) (h : m < 2 ^ n) where
   unfolding packed
   packed-append r e = ap (λ (w : ℕ). bit w (m % 64)) (get_or-append ws r 0 (m / 64) (rw e place))
 
-  pub packed-take : packed (take (word_count n) ws) m ≡ packed ws m
-  unfolding packed
-  packed-take = ap (λ (w : ℕ). bit w (m % 64)) (get_or-take (word_count n) ws (m / 64) 0 place)
-
 -- the settings of word i begin at 64 i, and there are this many of them
 module _ (n i : ℕ) (h : i < word_count n) where
-  pub part-fits : 64 * i + min (2 ^ n) 64 ≤ 2 ^ n
+  part-fits : 64 * i + min (2 ^ n) 64 ≤ 2 ^ n
   part-fits = go (room n)
     where
       go : Room n → 64 * i + min (2 ^ n) 64 ≤ 2 ^ n
       go (inl s) = omega (arith, min-le_left (2 ^ n) 64)
       go (inr s) = omega (arith, min-le_right (2 ^ n) 64)
+
+  pub part-room : (k : ℕ) → k ≡ min (2 ^ n) 64 → 64 * i + k ≤ 2 ^ n
+  part-room k e = rw e part-fits
 
   -- past them the first word has places left, where it is the only one
   part-past : (j : ℕ) → min (2 ^ n) 64 ≤ j → j < 64 → 2 ^ n ≤ 64 * i + j
@@ -80,17 +79,17 @@ module _ (n i : ℕ) (h : i < word_count n) where
           let u = ltb-false j k e in
           bit-above w k j small u ∙ ap (λ (b : Bool). b && f (64 * i + j)) (sym (le-ltb (64 * i + j) (2 ^ n) (part-past j u l)))
 
-module _ (n : ℕ) (f : ℕ → Bool) (ws : List ℕ) (size : length ws ≡ word_count n) (small : (i : ℕ) → get_or ws i 0 < 2 ^ 64)
+module _ (n : ℕ) (f : ℕ → Bool) (ws : List ℕ) (size : length ws ≡ word_count n)
     (holds : (m : ℕ) → m < 2 ^ n → packed ws m ≡ f m) where
-  pub full-words : 6 ≤ n → ws ≡ words n f
-  full-words h =
+  pub full-words : ((i : ℕ) → get_or ws i 0 < 2 ^ 64) → 6 ≤ n → ws ≡ words n f
+  full-words small h =
       words_of n f ws size (λ i k. small i)
       (λ m k. let l : m < 2 ^ n = omega (arith, word_count-full n h) in holds m l ∙ ap (λ (b : Bool). b && f m) (sym (lt-ltb m (2 ^ n) l)))
 
   pub cut_word : n < 6 → set ws 0 (get_or ws 0 0 % 2 ^ (2 ^ n)) ≡ words n f
   cut_word h =
       words_of n f us (length-set ws 0 low ∙ size)
-      (λ i k. let z : i ≡ 0 = omega (arith, one) in rw z (rw first (lt_of_le_of_lt (mod-le (get_or ws 0 0) (2 ^ (2 ^ n))) (small 0))))
+      (λ i k. let z : i ≡ 0 = omega (arith, one) in rw z (rw first fits))
       (λ m k. at m (omega (arith, one)) (ltb m (2 ^ n)) refl)
     where
       low : ℕ
@@ -98,6 +97,11 @@ module _ (n : ℕ) (f : ℕ → Bool) (ws : List ℕ) (size : length ws ≡ word
 
       us : List ℕ
       us = set ws 0 low
+
+      fits : low < 2 ^ 64
+      fits =
+          let room : 2 ^ (2 ^ n) ≤ 2 ^ 64 = pow_mono {j = 64} (omega (arith, few-settings n h)) in
+          omega (arith, pow_pos (2 ^ n))
 
       one : word_count n ≡ 1
       one = word_count-small n (omega arith)

@@ -3,26 +3,27 @@ ghost use Rattle.std.specs.Prelude.{Bool, ◌≡◌, ℕ, ◌+◌, ◌*◌, ◌^
 ghost use Rattle.anf_transform.specs.inner.Change.{Changed};
 ghost use Rattle.anf_transform.specs.inner.Flag.{pair_xor, joined, lowest, Holds};
 
-// Each of the `step` words from `base + step` on takes in the word `step` places before it.
-fn join_halves(words: &mut [u64], base: usize, step: usize)
-    requires { base + 2 * step ≤ length words.old }
-    ensures { Changed (base + step) (base + 2 * step) (pair_xor step words.old) words.old words.new }
+// Each of the last `step` words takes in the word `step` places before it.
+fn join_halves(words: &mut [u64], step: usize)
+    requires { length words.old ≡ 2 * step }
+    ensures { Changed step (2 * step) (pair_xor step words.old) words.old words.new }
 {
-    for i in base + step..base + 2 * step {
-        words[i] = words[i] ^ words[i - step];
+    let (low, high) = words.split_at_mut(step);
+    for (i, word) in high.iter_mut().enumerate() {
+        *word ^= low[i];
     }
 }
 
-// One flag, 6 + j, of words whose number is a power of two above 2 ^ j.
+// One flag, 6 + j, of words whose number is a power of two above 2 ^ j. The pairs of halves are counted, because of the words that
+// `chunks_exact_mut` lends a proof knows no value afterwards.
 fn along_flag(words: &mut [u64], j: usize, count: usize)
     requires { (j < count) × (count ≤ 10) × (length words.old ≡ 2 ^ count) }
     ensures { Changed 0 (length words.old) (joined j words.old) words.old words.new }
 {
     let step = 1 << j;
-    let mut base = 0;
-    while base < words.len() {
-        join_halves(words, base, step);
-        base = base + 2 * step;
+    for i in 0..1 << (count - 1 - j) {
+        let base = 2 * step * i;
+        join_halves(&mut words[base..base + 2 * step], step);
     }
 }
 

@@ -5,6 +5,7 @@ ghost use Rattle.anf_transform.specs.inner.Change.{Changed};
 ghost use Rattle.anf_transform.specs.inner.Flag.{in_word};
 
 // The XOR over subsets of the coefficients in one word.
+#[inline]
 pub fn transform_word(word: u64) -> u64
     ensures { result ≡ in_word word }
 {
@@ -21,7 +22,7 @@ pub fn inside(words: &mut [u64])
     ensures { Changed 0 (length words.old) (λ i. in_word (get_or words.old i 0))
         words.old words.new }
 {
-    for i in 0..words.len() {
-        words[i] = transform_word(words[i]);
+    for word in words.iter_mut() {
+        *word = transform_word(*word);
     }
 }

@@ -6,123 +6,77 @@ mod between;
 pub mod inside;
 pub mod pack;
 
-ghost use Rattle.std.specs.Prelude.{map, ◌≡◌, ℕ, ◌<◌, ◌≤◌, ◌^◌, length};
-ghost use Rattle.bits.specs.Bit.{digit};
+ghost use Rattle.std.specs.Prelude.{◌≡◌, ℕ, ◌<◌, ◌≤◌, ◌^◌, length};
 ghost use Rattle.rules.specs.Calls.{transform, way_back};
 ghost use Rattle.rules.specs.Coefficient.{coefficient, word_count, packed, words};
-ghost use Rattle.rules.specs.Limits.{form_flags};
 ghost use Rattle.rules.specs.Outcome.{left, written};
-ghost use Rattle.rules.specs.Table.{entry, settings};
+ghost use Rattle.rules.specs.Table.{entry};
 ghost use Rattle.anf_transform.specs.Answers.{filled_of};
+ghost use Rattle.anf_transform.specs.inner.Values.{values};
 
-use rules::{
-    FORM_FLAGS, Refusal, SHORT_COEFFICIENTS, SHORT_OUTPUT, SHORT_TABLE, STRAY_COEFFICIENT,
-    TOO_MANY_FLAGS,
-};
+use packed_anf::lent::{Coefficients, Entries};
+use rules::{FORM_FLAGS, FormFlags, Reason, Refusal};
 
-// What a call that fills a lent buffer answers: how many entries it wrote, or its refusal.
-#[derive(Clone, Copy)]
-pub enum Filled {
-    Entries(usize),
-    Refused(Refusal),
-}
-
-// The coefficient words of the table's algebraic normal form, at the front of `out`.
-pub fn compute_anf(flags: usize, table: &[u64], out: &mut [u64]) -> Filled
+// The coefficient words of the table's algebraic normal form, at the front of `out`; the answer is how many entries they are.
+pub fn compute_anf(flags: usize, table: &[u64], out: &mut [u64]) -> Result<usize, Refusal>
     ensures answer { filled_of out.new result ≡ transform flags table.now (length out.old) }
     ensures lent { out.new ≡ left out.old (transform flags table.now (length out.old)) }
 {
-    if FORM_FLAGS < flags {
-        return Filled::Refused(Refusal {
-            number: TOO_MANY_FLAGS,
-            place: 0,
-        });
-    }
-    if table.len() < packed_anf::setting_count(flags) {
-        return Filled::Refused(Refusal {
-            number: SHORT_TABLE,
-            place: 0,
-        });
-    }
-    let count = packed_anf::word_count(flags);
+    let table = Entries::<FORM_FLAGS>::checked(flags, table)?;
+    let count = packed_anf::word_count(table.flags);
     if out.len() < count {
-        return Filled::Refused(Refusal {
-            number: SHORT_OUTPUT,
-            place: count,
-        });
+        return Err(Reason::ShortOutput.at(count));
     }
-    transform_table(flags, table, &mut out[..count]);
-    Filled::Entries(count)
+    transform_table(table, &mut out[..count]);
+    Ok(count)
 }
 
-// One entry, 0 or 1, for each setting: the value there of the polynomial with these coefficients, at the front of `out`.
-pub fn compute_table(flags: usize, coefficients: &[u64], out: &mut [u64]) -> Filled
+// One entry, 0 or 1, for each setting: the value there of the polynomial with these coefficients, at the front of `out`; the answer is how many
+// entries they are.
+pub fn compute_table(flags: usize, coefficients: &[u64], out: &mut [u64]) -> Result<usize, Refusal>
     ensures answer { filled_of out.new result ≡ way_back flags coefficients.now (length out.old) }
     ensures lent { out.new ≡ left out.old (way_back flags coefficients.now (length out.old)) }
 {
-    if FORM_FLAGS < flags {
-        return Filled::Refused(Refusal {
-            number: TOO_MANY_FLAGS,
-            place: 0,
-        });
-    }
-    let count = packed_anf::word_count(flags);
-    if coefficients.len() < count {
-        return Filled::Refused(Refusal {
-            number: SHORT_COEFFICIENTS,
-            place: 0,
-        });
-    }
-    if packed_anf::is_stray(flags, coefficients) {
-        return Filled::Refused(Refusal {
-            number: STRAY_COEFFICIENT,
-            place: 0,
-        });
-    }
-    let settings = packed_anf::setting_count(flags);
+    let coefficients = Coefficients::<FORM_FLAGS>::checked(flags, coefficients)?;
+    let settings = packed_anf::setting_count(coefficients.flags);
     if out.len() < settings {
-        return Filled::Refused(Refusal {
-            number: SHORT_OUTPUT,
-            place: settings,
-        });
+        return Err(Reason::ShortOutput.at(settings));
     }
-    transform_back(flags, coefficients, out);
-    Filled::Entries(settings)
+    transform_back(coefficients, out);
+    Ok(settings)
 }
 
 // The XOR over subsets of the coefficients in the words, for all flags.
-fn transform_words(flags: usize, words: &mut [u64])
-    requires { (flags ≤ form_flags) × (length words.old ≡ word_count flags) }
-    ensures { (length words.new ≡ word_count flags)
-        × ((m : ℕ) → m < 2 ^ flags → packed words.new m ≡ coefficient flags (packed words.old) m) }
+fn transform_words(flags: FormFlags, words: &mut [u64])
+    requires { length words.old ≡ word_count flags.count }
+    ensures { (length words.new ≡ word_count flags.count)
+        × ((m : ℕ) → m < 2 ^ flags.count → packed words.new m ≡ coefficient flags.count (packed words.old) m) }
 {
     inside::inside(words);
-    if 6 < flags {
-        between::between(words, flags - 6);
+    if 6 < flags.count {
+        between::between(words, flags.count - 6);
     }
 }
 
 // The coefficient words of a complete table, in as many words as it takes.
-fn transform_table(flags: usize, table: &[u64], out: &mut [u64])
-    requires { (flags ≤ form_flags) × (2 ^ flags ≤ length table.now) × (length out.old ≡ word_count flags) }
-    ensures { out.new ≡ words flags (coefficient flags (entry table.now)) }
+fn transform_table(table: Entries<'_, FORM_FLAGS>, out: &mut [u64])
+    requires { length out.old ≡ word_count table.flags.count }
+    ensures { out.new ≡ words table.entry.flags.count (coefficient table.entry.flags.count (entry table.entry.entries.now)) }
 {
-    pack::pack(flags, table, out);
-    transform_words(flags, out);
-    if flags < 6 {
-        out[0] = packed_anf::low_bits(flags, out[0]);
+    pack::pack(table, out);
+    transform_words(table.flags, out);
+    if table.flags.count < 6 {
+        out[0] = packed_anf::low_bits(table.flags, out[0]);
     }
 }
 
 // The values of the polynomial at all settings, 0 or 1, at the front of `out`: its words come to hold them as bits and then give way to them.
-fn transform_back(flags: usize, coefficients: &[u64], out: &mut [u64])
-    requires { (flags ≤ form_flags) × (word_count flags ≤ length coefficients.now) × (2 ^ flags ≤ length out.old) }
-    ensures { out.new ≡ written out.old
-        (map (λ s. digit (coefficient flags (packed coefficients.now) s)) (settings flags)) }
+fn transform_back(coefficients: Coefficients<'_, FORM_FLAGS>, out: &mut [u64])
+    requires { 2 ^ coefficients.flags.count ≤ length out.old }
+    ensures { out.new ≡ written out.old (values coefficients.entry.flags.count coefficients.entry.words.now) }
 {
-    let count = packed_anf::word_count(flags);
-    let words = &mut out[..count];
-    pack::copy(coefficients, words);
-    transform_words(flags, words);
-    pack::unpack(flags, out);
+    let words = &mut out[..coefficients.words.len()];
+    words.copy_from_slice(coefficients.words);
+    transform_words(coefficients.flags, words);
+    pack::unpack(coefficients.flags, out);
 }

@@ -1,21 +1,21 @@
--- What a call for C has to return and to store, by its outcome. It rests on the definitions of Block and on rules' Console.
---   told-as            == what an arm of a match knows: the answer is this one, whose meaning is the outcome
---   answer-gives       == a result: 0, and its numbers
---   answer-refuses     == a refusal: its number, and its place alone
-use mathlib.Core.List.{List, [], ◌∷◌}
-use mathlib.Core.Path.{◌≡◌, sym, ap, ◌∙◌}
-use Prim.Native.Nat.{ℕ}
-use Rattle.rules.specs.Console.{number}
-use Rattle.rules.specs.Outcome.{Outcome, gives, refuses}
-use Rattle.answer_block.specs.Block.{stored, numbers, Answers}
+-- What a call for C has to return and to store, by its outcome. It rests on the definitions of Block and on the answers of calls (rules, Refusal).
+--   answered f g      == of an answer whose result is f of it on paper, mapped to the numbers that g tells
+use Rattle.std.specs.Prelude.{List, ◌≡◌, ℕ, Result, Ok, Err, MatchResult, IsOkAnd}
+use mathlib.Core.Path.{ap, subst, ◌∙◌}
+use Rattle.rules.specs.Outcome.{Outcome}
+use Rattle.rules.specs.Refusal.{outcome_of}
+use Rattle.rules.specs.declared.refusal.Refusal.{Refusal}
+use Rattle.answer_block.specs.Block.{stored, Answers}
 
-pub told-as : {Q O : Type 0} (of : Q → O) {q c : Q} {o : O} → q ≡ c → of q ≡ o → of c ≡ o
-told-as of e is = sym (ap of e) ∙ is
+module _ {A B : Type 0} (f : A → B) (g : B → List ℕ) {P : A → List ℕ → Type 0} (block : List ℕ) (r : ℕ) (after : List ℕ) where
+  told : (q : Result A Refusal) (m : Result (List ℕ) Refusal) → MatchResult q (λ x. IsOkAnd m (P x)) (λ e. m ≡ Err e)
+      → ((x : A) (l : List ℕ) → P x l → l ≡ g (f x)) → Answers (λ l. l) (outcome_of (λ l. l) m) block r after
+      → Answers g (outcome_of f q) block r after
+  told (Ok x) (Ok l) c h a = (a.0, a.1 ∙ ap (stored block) (h x l c))
+  told (Ok x) (Err e) c h a = absurd c
+  told (Err e) m c h a = subst (λ (n : Result (List ℕ) Refusal). Answers (λ l. l) (outcome_of (λ l. l) n) block r after) c a
 
-module _ {A : Type 0} (f : A → List ℕ) {o : Outcome A} {r : ℕ} (block : List ℕ) {after : List ℕ} where
-  pub answer-gives : {a : A} {l : List ℕ} → gives a ≡ o → r ≡ 0 → after ≡ stored block l → l ≡ f a
-      → Answers f o block r after
-  answer-gives e n s same = (n ∙ ap number e, s ∙ ap (stored block) same ∙ ap (λ (q : Outcome A). stored block (numbers f q)) e)
-
-  pub answer-refuses : {k p : ℕ} → refuses k p ≡ o → r ≡ k → after ≡ stored block (p ∷ []) → Answers f o block r after
-  answer-refuses e n s = (n ∙ ap number e, s ∙ ap (λ (q : Outcome A). stored block (numbers f q)) e)
+  pub answered : (q : Result A Refusal) (m : Result (List ℕ) Refusal) {o : Outcome B} → outcome_of f q ≡ o
+      → MatchResult q (λ x. IsOkAnd m (P x)) (λ e. m ≡ Err e) → Answers (λ l. l) (outcome_of (λ l. l) m) block r after
+      → ((x : A) (l : List ℕ) → P x l → l ≡ g (f x)) → Answers g o block r after
+  answered q m e c a h = subst (λ (o : Outcome B). Answers g o block r after) e (told q m c h a)

@@ -1,20 +1,22 @@
 -- A lent block that takes as much of an answer as it has room for, filled number by number. It rests on the definition of Block and on the
 -- laws of runs of stores (bits, Stores).
---   stored-first     == the first number is one store
---   stored_more      == one more number is one more store, after those before it
+--   stored-none      == no number
+--   stored_step      == one more number is one more store, after those before it
 --   stored-front     == where there is room, the numbers stand at the front
 --   stored_same      == where there is room, the block tells as many numbers as were stored
 --   head-stored      == and the first of however many
 use mathlib.Core.List.{List, [], ◌∷◌, ◌++◌}
 use mathlib.Core.Path.{◌≡◌, refl, sym, ap, subst, ◌∙◌}
-use Prim.Native.Nat.{ℕ, suc, ◌≤◌, ◌<◌}
+use Prim.Native.Nat.{ℕ, suc, ◌+◌, ◌≤◌, ◌<◌}
 use native.Mathlib.Nat.{not-suc-le-zero}
+use native.Mathlib.Numerals.{add-one}
+use native.Mathlib.Omega.{arith}
 use lib.ListN.{length, take, set, get_or}
-use lib.Seq.{sets, take_all}
+use lib.Seq.{sets, take_all, take-suc, length-take-le}
 use Rattle.bits.proofs.Stores.{sets-after, take-sets-front}
 use Rattle.answer_block.specs.Block.{stored}
 
-stored-none : (block : List ℕ) → stored block [] ≡ block
+pub stored-none : (block : List ℕ) → stored block [] ≡ block
 unfolding stored
 stored-none [] = refl
 stored-none (b ∷ block) = refl
@@ -31,12 +33,13 @@ stored_next (b ∷ block) (y ∷ l) x =
     ap (λ (r : List ℕ). set r (suc (length l)) x) (stored-after b block y l) ∙ ap (λ (r : List ℕ). y ∷ r) (stored_next block l x)
     ∙ sym (stored-after b block y (l ++ (x ∷ [])))
 
-pub stored-first : (block : List ℕ) (x : ℕ) → set block 0 x ≡ stored block (x ∷ [])
-stored-first block x = ap (λ (b : List ℕ). set b 0 x) (sym (stored-none block)) ∙ stored_next block [] x
-
-pub stored_more : {before after : List ℕ} (block l : List ℕ) (x : ℕ) → before ≡ stored block l → after ≡ set before (length l) x
-    → after ≡ stored block (l ++ (x ∷ []))
-stored_more block l x e f = f ∙ ap (λ (b : List ℕ). set b (length l) x) e ∙ stored_next block l x
+pub stored_step : {before : List ℕ} (block l : List ℕ) (i : ℕ) → i < length l → before ≡ stored block (take i l)
+    → set before i (get_or l i 0) ≡ stored block (take (i + 1) l)
+stored_step block l i h e =
+    let n = get_or l i 0 in
+    let short : length (take i l) ≡ i = length-take-le i l (omega arith) in
+    ap (λ (b : List ℕ). set b i n) e ∙ ap (λ (k : ℕ). set (stored block (take i l)) k n) (sym short) ∙ stored_next block (take i l) n
+    ∙ ap (stored block) (sym (take-suc l i 0 h) ∙ ap (λ (k : ℕ). take k l) (sym (add-one i)))
 
 pub stored-front : (block l : List ℕ) → length l ≤ length block → take (length l) (stored block l) ≡ l
 unfolding stored

@@ -3,67 +3,56 @@
 #![tactic(auto)]
 
 ghost use Rattle.std.specs.Prelude.{◌≡◌};
+ghost use Rattle.std.proofs.Math.Option.{some};
 ghost use Rattle.expr.specs.Answers.{kind_of};
+ghost use Rattle.expr_cost.specs.Answers.{costs_of};
+ghost use Rattle.reader.specs.Answers.{node_of};
 ghost use Rattle.rules.specs.Calls;
 ghost use Rattle.answer_block.specs.Block.{Answers};
 ghost use Rattle.answer_block.specs.Numbers as c;
 
+use answer_block::{alone, count};
 use cheaper::Which;
-use evaluation::Evaluation;
-use examiner::Examination;
 use expr::Kind;
-use expr_cost::Costing;
-use reader::Reading;
-use stars::StarEvaluation;
+use expr_cost::Costs;
+use reader::Node;
 
 // The record at a place, or the end.
 pub fn read(flags: usize, bytes: &[u8], place: usize, answer: &mut [u64]) -> u64
     ensures answer { Answers c.reading (Calls.read flags bytes.now place)
         answer.old result answer.new }
 {
-    let read = reader::read(flags, bytes, place);
-    match read {
-        Reading::Found(node) => {
-            let kind = node.kind;
-            answer_block::five(
-                answer,
-                kind_number(kind),
-                payload(kind),
-                node.next as u64,
-                node.first as u64,
-                node.second as u64,
-            )
-        }
-        Reading::End => answer_block::one(answer, 0),
-        Reading::Refused(refusal) => answer_block::refusal(answer, refusal),
+    match reader::read(flags, bytes, place).transpose() {
+        None => answer_block::answer(answer, Ok([0])),
+        Some(read) => answer_block::answer(answer, read.map(record)),
     }
 }
 
-// A kind's number: 1 CO, 2 VA, 3 AN, 4 OR, 5 XO, 6 NO.
-fn kind_number(kind: Kind) -> u64
-    ensures { result ≡ c.kind_number (kind_of kind) }
+// A record's kind and payload, the next place and where its operands start.
+fn record(node: Node) -> [u64; 5]
+    ensures { result ≡ c.reading (some (node_of node)) }
 {
-    match kind {
-        Kind::Constant(_) => 1,
-        Kind::Variable(_) => 2,
-        Kind::And => 3,
-        Kind::Or => 4,
-        Kind::Xor => 5,
-        Kind::Not => 6,
-    }
+    let (kind, payload) = kind_and_payload(node.kind);
+    [
+        kind,
+        payload,
+        node.next as u64,
+        node.first as u64,
+        node.second as u64,
+    ]
 }
 
-// A kind's payload, 0 where it has none.
-fn payload(kind: Kind) -> u64
-    ensures { result ≡ c.payload (kind_of kind) }
+// A kind's number, 1 CO, 2 VA, 3 AN, 4 OR, 5 XO, 6 NO, and its payload, 0 where it has none.
+fn kind_and_payload(kind: Kind) -> (u64, u64)
+    ensures { result ≡ (c.kind_number (kind_of kind), c.payload (kind_of kind)) }
 {
     match kind {
-        Kind::Constant(b) => b as u64,
-        Kind::Variable(i) => i as u64,
-        Kind::And => 0,
-        Kind::Or => 0,
-        Kind::Xor => 0,
-        Kind::Not => 0,
+        Kind::Constant(value) => (1, u64::from(value)),
+        Kind::Variable(flag) => (2, u64::from(flag)),
+        Kind::And => (3, 0),
+        Kind::Or => (4, 0),
+        Kind::Xor => (5, 0),
+        Kind::Not => (6, 0),
     }
 }
 
@@ -72,11 +61,10 @@ pub fn evaluate(flags: usize, bytes: &[u8], setting: usize, answer: &mut [u64]) 
     ensures answer { Answers c.alone (Calls.evaluate flags bytes.now setting)
         answer.old result answer.new }
 {
-    let evaluated = evaluation::evaluate(flags, bytes, setting);
-    match evaluated {
-        Evaluation::Value(value) => answer_block::one(answer, value),
-        Evaluation::Refused(refusal) => answer_block::refusal(answer, refusal),
-    }
+    answer_block::answer(
+        answer,
+        evaluation::evaluate(flags, bytes, setting).map(alone),
+    )
 }
 
 // The values of an expression for 64 stars, in one word.
@@ -84,11 +72,10 @@ pub fn evaluate_stars(flags: usize, words: &[u64], bytes: &[u8], answer: &mut [u
     ensures answer { Answers c.alone (Calls.evaluate_stars flags words.now bytes.now)
         answer.old result answer.new }
 {
-    let evaluated = stars::evaluate_stars(flags, words, bytes);
-    match evaluated {
-        StarEvaluation::Values(values) => answer_block::one(answer, values),
-        StarEvaluation::Refused(refusal) => answer_block::refusal(answer, refusal),
-    }
+    answer_block::answer(
+        answer,
+        stars::evaluate_stars(flags, words, bytes).map(alone),
+    )
 }
 
 // The cost, size and depth of an expression.
@@ -96,27 +83,23 @@ pub fn cost(flags: usize, bytes: &[u8], answer: &mut [u64]) -> u64
     ensures answer { Answers c.costs (Calls.costing flags bytes.now)
         answer.old result answer.new }
 {
-    let costing = expr_cost::compute_cost(flags, bytes);
-    match costing {
-        Costing::Known(costs) => answer_block::three(
-            answer,
-            costs.cost as u64,
-            costs.size as u64,
-            costs.depth as u64,
-        ),
-        Costing::Refused(refusal) => answer_block::refusal(answer, refusal),
-    }
+    answer_block::answer(answer, expr_cost::compute_cost(flags, bytes).map(costs))
+}
+
+fn costs(costs: Costs) -> [u64; 3]
+    ensures { result ≡ c.costs (costs_of costs) }
+{
+    [costs.cost as u64, costs.size as u64, costs.depth as u64]
 }
 
 // Which of two expressions is the cheaper: 1 the first, 2 the second, 0 where the flag count or either is refused.
 pub fn cheaper(flags: usize, first: &[u8], second: &[u8]) -> u64
     ensures { result ≡ c.cheaper flags first.now second.now }
 {
-    let which = cheaper::compare(flags, first, second);
-    match which {
-        Which::First => 1,
-        Which::Second => 2,
-        Which::Neither => 0,
+    match cheaper::compare(flags, first, second) {
+        Some(Which::First) => 1,
+        Some(Which::Second) => 2,
+        None => 0,
     }
 }
 
@@ -125,9 +108,5 @@ pub fn examine(flags: usize, table: &[u64], bytes: &[u8], answer: &mut [u64]) ->
     ensures answer { Answers c.alone (Calls.examine flags table.now bytes.now)
         answer.old result answer.new }
 {
-    let examination = examiner::examine(flags, table, bytes);
-    match examination {
-        Examination::Accepted(cost) => answer_block::one(answer, cost as u64),
-        Examination::Refused(refusal) => answer_block::refusal(answer, refusal),
-    }
+    answer_block::answer(answer, examiner::examine(flags, table, bytes).map(count))
 }

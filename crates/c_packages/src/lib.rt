@@ -3,13 +3,15 @@
 #![tactic(auto)]
 
 ghost use Rattle.std.specs.Prelude.{◌≡◌, length};
+ghost use Rattle.std.proofs.Math.Option.{some};
 ghost use Rattle.rules.specs.Outcome.{left};
 ghost use Rattle.rule_package.specs.Calls.{write_rule, read_rule};
+ghost use Rattle.package_reader.specs.Answers.{rule_at_of};
 ghost use Rattle.answer_block.specs.Block.{Answers};
 ghost use Rattle.answer_block.specs.Numbers as c;
 
-use package_reader::RuleReading;
-use package_writer::Writing;
+use answer_block::count;
+use package_reader::RuleAt;
 
 // A rule, at the front of `out`.
 pub fn write(flags: usize, table: u64, bytes: &[u8], out: &mut [u8], answer: &mut [u64]) -> u64
@@ -19,29 +21,32 @@ pub fn write(flags: usize, table: u64, bytes: &[u8], out: &mut [u8], answer: &mu
         (write_rule (record { flags = flags; table = table; expression = bytes.now }) (length out.old))
         answer.old result answer.new }
 {
-    let writing = package_writer::write_rule(flags, table, bytes, out);
-    match writing {
-        Writing::Written(length) => answer_block::one(answer, length as u64),
-        Writing::Refused(refusal) => answer_block::refusal(answer, refusal),
-    }
+    answer_block::answer(
+        answer,
+        package_writer::write_rule(flags, table, bytes, out).map(count),
+    )
 }
 
 // The rule at a place, or the end.
 pub fn read(bytes: &[u8], place: usize, answer: &mut [u64]) -> u64
     ensures answer { Answers c.package_reading (read_rule bytes.now place) answer.old result answer.new }
 {
-    let reading = package_reader::read_rule(bytes, place);
-    match reading {
-        RuleReading::Found(rule) => answer_block::six(
-            answer,
-            1,
-            rule.flags as u64,
-            rule.table,
-            rule.start as u64,
-            rule.length as u64,
-            rule.next as u64,
-        ),
-        RuleReading::End => answer_block::one(answer, 0),
-        RuleReading::Refused(refusal) => answer_block::refusal(answer, refusal),
+    match package_reader::read_rule(bytes, place).transpose() {
+        None => answer_block::answer(answer, Ok([0])),
+        Some(read) => answer_block::answer(answer, read.map(rule)),
     }
+}
+
+// That there is a rule, its flag count and table, where its expression starts and how long it is, and the next place.
+fn rule(rule: RuleAt) -> [u64; 6]
+    ensures { result ≡ c.package_reading (some (rule_at_of rule)) }
+{
+    [
+        1,
+        rule.flags as u64,
+        rule.table,
+        rule.start as u64,
+        rule.length as u64,
+        rule.next as u64,
+    ]
 }

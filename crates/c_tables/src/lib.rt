@@ -2,16 +2,17 @@
 // lent block. It rests on these calls and on `answer_block`.
 #![tactic(auto)]
 
-ghost use Rattle.std.specs.Prelude.{◌≡◌, length};
+ghost use Rattle.std.specs.Prelude.{[], ◌∷◌, ◌≡◌, length};
+ghost use Rattle.bits.specs.Bit.{digit};
 ghost use Rattle.compiler.specs.Answers.{bytes_of};
 ghost use Rattle.rules.specs.Calls;
 ghost use Rattle.rules.specs.Outcome.{left, gives, ◌then◌};
 ghost use Rattle.answer_block.specs.Block.{Answers};
 ghost use Rattle.answer_block.specs.Numbers as c;
 
-use anf_form::{Listing, RawCost};
-use anf_transform::Filled;
-use compiler::Compilation;
+use anf_form::Contents;
+use answer_block::count;
+use compiler::Expression;
 
 // The coefficient words of a table, at the front of `out`.
 pub fn transform(flags: usize, table: &[u64], out: &mut [u64], answer: &mut [u64]) -> u64
@@ -19,11 +20,10 @@ pub fn transform(flags: usize, table: &[u64], out: &mut [u64], answer: &mut [u64
     ensures answer { Answers c.entries (Calls.transform flags table.now (length out.old))
         answer.old result answer.new }
 {
-    let filled = anf_transform::compute_anf(flags, table, out);
-    match filled {
-        Filled::Entries(words) => answer_block::one(answer, words as u64),
-        Filled::Refused(refusal) => answer_block::refusal(answer, refusal),
-    }
+    answer_block::answer(
+        answer,
+        anf_transform::compute_anf(flags, table, out).map(count),
+    )
 }
 
 // The table of coefficients, one entry for each setting, at the front of `out`.
@@ -32,11 +32,10 @@ pub fn way_back(flags: usize, coefficients: &[u64], out: &mut [u64], answer: &mu
     ensures answer { Answers c.entries (Calls.way_back flags coefficients.now (length out.old))
         answer.old result answer.new }
 {
-    let filled = anf_transform::compute_table(flags, coefficients, out);
-    match filled {
-        Filled::Entries(entries) => answer_block::one(answer, entries as u64),
-        Filled::Refused(refusal) => answer_block::refusal(answer, refusal),
-    }
+    answer_block::answer(
+        answer,
+        anf_transform::compute_table(flags, coefficients, out).map(count),
+    )
 }
 
 // The monomials by count of ones, then mask, at the front of `out`.
@@ -46,15 +45,17 @@ pub fn listing(flags: usize, coefficients: &[u64], out: &mut [u32], answer: &mut
     ensures answer { Answers c.listing (Calls.listing flags coefficients.now (length out.old))
         answer.old result answer.new }
 {
-    let listing = anf_form::from_anf_coeffs(flags, coefficients, out);
-    match listing {
-        Listing::Listed(contents) => answer_block::two(
-            answer,
-            contents.constant as u64,
-            contents.count as u64,
-        ),
-        Listing::Refused(refusal) => answer_block::refusal(answer, refusal),
-    }
+    answer_block::answer(
+        answer,
+        anf_form::from_anf_coeffs(flags, coefficients, out).map(contents),
+    )
+}
+
+// The constant, 0 or 1, and the count of monomials.
+fn contents(contents: Contents) -> [u64; 2]
+    ensures { result ≡ digit contents.constant ∷ contents.count ∷ [] }
+{
+    [u64::from(contents.constant), contents.count as u64]
 }
 
 // The cost of the raw form.
@@ -62,11 +63,10 @@ pub fn raw_cost(flags: usize, coefficients: &[u64], answer: &mut [u64]) -> u64
     ensures answer { Answers c.alone (Calls.raw_costing flags coefficients.now)
         answer.old result answer.new }
 {
-    let raw = anf_form::raw_anf_cost(flags, coefficients);
-    match raw {
-        RawCost::Cost(cost) => answer_block::one(answer, cost as u64),
-        RawCost::Refused(refusal) => answer_block::refusal(answer, refusal),
-    }
+    answer_block::answer(
+        answer,
+        anf_form::raw_anf_cost(flags, coefficients).map(count),
+    )
 }
 
 // The expression of a table, at the front of `out`.
@@ -76,15 +76,20 @@ pub fn compile(flags: usize, table: &[u64], out: &mut [u8], answer: &mut [u64]) 
     ensures answer { Answers c.compilation (Calls.compile flags table.now (length out.old))
         answer.old result answer.new }
 {
-    let compilation = compiler::build_anf_expr(flags, table, out);
-    match compilation {
-        Compilation::Written(expression) => answer_block::four(
-            answer,
-            expression.bytes as u64,
-            expression.records as u64,
-            expression.cost as u64,
-            expression.raw as u64,
-        ),
-        Compilation::Refused(refusal) => answer_block::refusal(answer, refusal),
-    }
+    answer_block::answer(
+        answer,
+        compiler::build_anf_expr(flags, table, out).map(expression),
+    )
+}
+
+// The counts of bytes and records, the cost and the raw cost.
+fn expression(expression: Expression) -> [u64; 4]
+    ensures { result ≡ expression.bytes ∷ expression.records ∷ expression.cost ∷ expression.raw ∷ [] }
+{
+    [
+        expression.bytes as u64,
+        expression.records as u64,
+        expression.cost as u64,
+        expression.raw as u64,
+    ]
 }

@@ -1,52 +1,43 @@
 // The cheaper of two expressions, by size and then depth, after `is_better` of `expr_cost.rs`. It rests on the costs of an expression.
 #![tactic(auto)]
 
-ghost use Rattle.std.specs.Prelude.{◌≡◌};
+ghost use Rattle.std.specs.Prelude.{◌≡◌, Some, None};
 ghost use Rattle.rules.specs.Calls;
 ghost use Rattle.rules.specs.Calls.{cheaper_of};
 ghost use Rattle.expr_cost.specs.Answers.{costs_of};
 ghost use Rattle.cheaper.specs.Better.{better};
 ghost use Rattle.cheaper.specs.Part.{empty_part, cheaper_part};
 
-use expr_cost::{Costing, Costs, compute_cost};
+use expr_cost::{Costs, compute_cost};
 
 // Which of two expressions is the cheaper.
-#[derive(Clone, Copy)]
+#[derive(Clone, Copy, Debug, PartialEq, Eq)]
 pub enum Which {
     First,
     Second,
-    // The flag count or one of the two is refused.
-    Neither,
 }
 
-// The second if it is smaller by size, then depth; else the first.
-pub fn compare(flags: usize, first: &[u8], second: &[u8]) -> Which
-    ensures { result ≡ cheaper_of Which.Neither Which.First Which.Second
+// The second if it is smaller by size, then depth; else the first. None where the flag count or one of the two is refused.
+pub fn compare(flags: usize, first: &[u8], second: &[u8]) -> Option<Which>
+    ensures { result ≡ cheaper_of None (Some Which.First) (Some Which.Second)
         (Calls.parse flags first.now) (Calls.parse flags second.now) }
 {
-    let one = compute_cost(flags, first);
-    let Costing::Known(a) = one else {
-        return Which::Neither;
-    };
-    let other = compute_cost(flags, second);
-    let Costing::Known(b) = other else {
-        return Which::Neither;
-    };
+    let a = compute_cost(flags, first).ok()?;
+    let b = compute_cost(flags, second).ok()?;
     if is_better(b, a) {
-        return Which::Second;
+        return Some(Which::Second);
     }
-    Which::First
+    Some(Which::First)
 }
 
 // The slice of the cheaper one; where the flag count or either expression is refused, the empty part at the front of the first.
 pub fn cheaper<'a>(flags: usize, first: &'a [u8], second: &'a [u8]) -> &'a [u8]
     ensures { result ≡ cheaper_part flags first.entry second.entry }
 {
-    let which = compare(flags, first, second);
-    match which {
-        Which::First => first,
-        Which::Second => second,
-        Which::Neither => empty(first),
+    match compare(flags, first, second) {
+        Some(Which::First) => first,
+        Some(Which::Second) => second,
+        None => empty(first),
     }
 }
 
@@ -61,8 +52,5 @@ fn empty(s: &[u8]) -> &[u8]
 pub fn is_better(candidate: Costs, baseline: Costs) -> bool
     ensures { result ≡ better (costs_of candidate) (costs_of baseline) }
 {
-    if candidate.size == baseline.size {
-        return candidate.depth < baseline.depth;
-    }
-    candidate.size < baseline.size
+    (candidate.size, candidate.depth) < (baseline.size, baseline.depth)
 }

@@ -1,3 +1,4 @@
 pub mod Same
 pub mod Called
-pub mod Counted
+pub mod Told
+pub mod Fronts

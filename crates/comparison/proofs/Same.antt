@@ -1,60 +1,29 @@
--- Two lists compared entry by entry from the front. It rests on the test of equal lists (bits, Range) and on lib.Seq.
---   same-sizes      == lists of unlike length are not the same
---   same_differs    == nor are lists with one unlike entry
---   front_same      == fronts that agree, one entry further
---   same_whole      == lists whose fronts agree to the end are the same
---   same-tells      == a truth value that tells whether two lists are equal
-use Rattle.std.proofs.Common.{
-  ◌≡◌,
-  ℕ,
-  ◌+◌,
-  ◌<◌,
-  ◌≤◌,
-  Bool,
-  true,
-  false,
-  List,
-  [],
-  ◌∷◌,
-  ◌++◌,
-  length,
-  get_or,
-  take,
-  sym,
-  refl,
-  ap,
-  ◌∙◌,
-  ap₂,
-  add-one,
-  take_all,
-  take-suc,
-}
+-- The comparisons of the library, of two lists and of two outcomes, are those of specs/: `==` of the code is the test on paper.
+--   pointwise-same    == two lists compared entry by entry
+--   outcome-same      == two outcomes, by the derived `==`
+--   same-said         == what that told of two outcomes that are known
+use Rattle.std.proofs.Common.{◌≡◌, ℕ, Bool, ◌&&◌, List, [], ◌∷◌, refl, ap, ap₂, ◌∙◌, nat_eq}
+use Rattle.std.specs.Cmp.Lexicographic.{pointwise}
 use Rattle.bits.specs.Range.{same}
-use Rattle.bits.proofs.Range.{same_true, same_refl}
-use Rattle.bits.proofs.Truth.{bool-ext}
+use Rattle.comparison.specs.Outcome.{same_outcome}
+use Rattle.comparison.specs.contracts.outcome.OutcomePartialEq.TheImpl.{ghosts}
+use Rattle.comparison.specs.declared.outcome.Outcome.{Outcome}
+use Rattle.comparison.specs.declared.outcome.Outcome.TheVariants.{Results, Refused}
 
-module _ (l k : List ℕ) where
-  same-unlike : (l ≡ k → ⊥) → false ≡ same l k
-  same-unlike unlike = go (same l k) refl
-    where
-      go : (b : Bool) → same l k ≡ b → false ≡ same l k
-      go true e = absurd (unlike (same_true l k e))
-      go false e = sym e
+pub pointwise-same : (l k : List ℕ) → pointwise nat_eq l k ≡ same l k
+unfolding same
+pointwise-same [] [] = refl
+pointwise-same [] (y ∷ k) = refl
+pointwise-same (x ∷ l) [] = refl
+pointwise-same (x ∷ l) (y ∷ k) = ap (λ (b : Bool). nat_eq x y && b) (pointwise-same l k)
 
-  pub same-sizes : (length l ≡ length k → ⊥) → false ≡ same l k
-  same-sizes unlike = same-unlike (λ e. unlike (ap length e))
+pub outcome-same : (a b : Outcome) → ghosts.eq a b ≡ same_outcome a b
+unfolding same_outcome
+outcome-same (Results a) (Results b) = pointwise-same a b
+outcome-same (Refused k p) (Refused j q) = refl
+outcome-same (Results a) (Refused k p) = refl
+outcome-same (Refused k p) (Results b) = refl
 
-  pub same_differs : (i : ℕ) → (get_or l i 0 ≡ get_or k i 0 → ⊥) → false ≡ same l k
-  same_differs i unlike = same-unlike (λ e. unlike (ap (λ (s : List ℕ). get_or s i 0) e))
-
-  pub front_same : (i : ℕ) → i < length l → i < length k →
-      take i l ≡ take i k → get_or l i 0 ≡ get_or k i 0 → take (i + 1) l ≡ take (i + 1) k
-  front_same i h j f e = rw (add-one, take-suc l i 0, take-suc k i 0) (ap₂ (λ (r : List ℕ) (x : ℕ). r ++ (x ∷ [])) f e)
-
-  pub same_whole : (i : ℕ) → length l ≤ i → length k ≤ i → take i l ≡ take i k → true ≡ same l k
-  same_whole i h j f =
-      let e : l ≡ k = sym (take_all i l h) ∙ f ∙ take_all i k j in
-      sym (ap (same l) (sym e) ∙ same_refl l)
-
-  pub same-tells : (b : Bool) → (b ≡ true → l ≡ k) → (l ≡ k → b ≡ true) → b ≡ same l k
-  same-tells b f g = bool-ext b (same l k) (λ e. sym (ap (same l) (f e)) ∙ same_refl l) (λ e. g (same_true l k e))
+module _ {a b x y : Outcome} {r : Bool} where
+  pub same-said : r ≡ ghosts.eq x y → x ≡ a → y ≡ b → r ≡ same_outcome a b
+  same-said f p q = f ∙ outcome-same x y ∙ ap₂ same_outcome p q

@@ -1,60 +1,47 @@
-// What a call answered, or is recorded to answer, as numbers.
-ghost use Rattle.std.specs.Prelude.{◌≡◌};
-ghost use Rattle.comparison.specs.Outcome.{results, refusal, same_outcome};
+// What a call answered, or is recorded to answer, as numbers, and whether both are the same. It rests on refusals.
+ghost use Rattle.std.specs.Cmp.Lexicographic.{pointwise};
+ghost use Rattle.std.specs.Prelude.{◌≡◌, ◌&&◌};
+ghost use Rattle.comparison.specs.Outcome.{refusal, told, damage, same_outcome};
 
-// Whether it is a refusal, so that no result reads as one; a refusal's number, or 0; and up to four results. The first result
-// of a refusal is its place.
-#[derive(Clone, Copy)]
-pub struct Outcome {
-    pub refused: bool,
-    pub number: u64,
-    pub first: usize,
-    pub second: usize,
-    pub third: usize,
-    pub fourth: usize,
+use rules::Refusal;
+
+// Up to four results, with 0 for what a call does not have, or a refusal. A file can record any number, so that it need not be a condition's.
+#[derive(Clone, Copy, Debug, PartialEq, Eq)]
+pub enum Outcome {
+    Results([usize; 4]),
+    Refused { number: u64, place: usize },
 }
 
-pub fn given(first: usize, second: usize, third: usize, fourth: usize) -> Outcome
-    ensures { result ≡ results first second third fourth }
-{
-    Outcome {
-        refused: false,
-        number: 0,
-        first,
-        second,
-        third,
-        fourth,
+impl Outcome {
+    pub fn refused(number: u64, place: usize) -> Outcome
+        ensures { result ≡ refusal number place }
+    {
+        Outcome::Refused { number, place }
+    }
+
+    // For what no whole file asks. No file records this number.
+    pub fn damaged() -> Outcome
+        ensures { result ≡ damage }
+    {
+        Outcome::refused(256, 0)
     }
 }
 
-pub fn refused(number: u64, place: usize) -> Outcome
-    ensures { result ≡ refusal number place }
-{
-    Outcome {
-        refused: true,
-        number,
-        first: place,
-        second: 0,
-        third: 0,
-        fourth: 0,
+// An answer, its result given in numbers. They are a tuple because a closure that makes an array has no contract without a clause.
+impl From<Result<(usize, usize, usize, usize), Refusal>> for Outcome {
+    ghost from_gives = { λ answer outcome. outcome ≡ told answer };
+
+    fn from(answer: Result<(usize, usize, usize, usize), Refusal>) -> Outcome {
+        match answer {
+            Ok((first, second, third, fourth)) => Outcome::Results([first, second, third, fourth]),
+            Err(refusal) => Outcome::refused(refusal.number(), refusal.place),
+        }
     }
 }
 
-// For what no whole file asks. No file records this number.
-pub fn damaged() -> Outcome
-    ensures { result ≡ refusal 256 0 }
+// Whether a call tells the outcome and leaves the buffer that is expected of it.
+pub fn comes_to<T: PartialEq>(told: Outcome, out: &[T], expected: Outcome, left: &[T]) -> bool
+    ensures { result ≡ (same_outcome told expected && pointwise T.eq out.now left.now) }
 {
-    refused(256, 0)
-}
-
-// Whether two outcomes are both refusals or both none, and have the same number and the same results.
-pub fn is_same(one: Outcome, other: Outcome) -> bool
-    ensures { result ≡ same_outcome one other }
-{
-    (one.refused == other.refused)
-        & (one.number == other.number)
-        & (one.first == other.first)
-        & (one.second == other.second)
-        & (one.third == other.third)
-        & (one.fourth == other.fourth)
+    (told == expected) & (out == left)
 }

@@ -4,74 +4,67 @@
 #![tactic(auto)]
 
 ghost use Rattle.std.specs.Prelude.{◌≡◌};
-ghost use Rattle.examiner.specs.Answers.{examination_of};
 ghost use Rattle.rules.specs.Calls;
 ghost use Rattle.rules.specs.Console.{entries, number, result as result_of};
+ghost use Rattle.rules.specs.Refusal.{outcome_of};
 
-use evaluation::Evaluation;
-use examiner::Examination;
-use rules::{RULE_FLAGS, Refusal, SHORT_TABLE, TOO_MANY_FLAGS};
+use rules::{Reason, Refusal, RuleFlags};
 use table::Table;
 
 // The refusal's number at evaluation, or 0.
 pub fn rule_evaluation_number(flags: usize, bytes: &[u8], setting: usize) -> u64
     ensures { result ≡ number (Calls.evaluate flags bytes.now setting) }
 {
-    let answer = evaluation::evaluate(flags, bytes, setting);
-    match answer {
-        Evaluation::Value(_) => 0,
-        Evaluation::Refused(refusal) => refusal.number,
-    }
+    number(evaluation::evaluate(flags, bytes, setting))
 }
 
 // The value at the setting, or the refusal's place.
 pub fn rule_evaluation_result(flags: usize, bytes: &[u8], setting: usize) -> u64
     ensures { result ≡ result_of (Calls.evaluate flags bytes.now setting) }
 {
-    let answer = evaluation::evaluate(flags, bytes, setting);
-    match answer {
-        Evaluation::Value(value) => value,
-        Evaluation::Refused(refusal) => refusal.place as u64,
-    }
+    result(evaluation::evaluate(flags, bytes, setting))
 }
 
 // The refusal's number at examination, or 0.
 pub fn rule_examination_number(flags: usize, table: &[u8], bytes: &[u8]) -> u64
     ensures { result ≡ number (Calls.examine flags (entries table.now) bytes.now) }
 {
-    let answer = examine(flags, table, bytes);
-    match answer {
-        Examination::Accepted(_) => 0,
-        Examination::Refused(refusal) => refusal.number,
-    }
+    number(examine(flags, table, bytes))
 }
 
 // The cost of an expression that is accepted, or the refusal's place.
 pub fn rule_examination_result(flags: usize, table: &[u8], bytes: &[u8]) -> u64
     ensures { result ≡ result_of (Calls.examine flags (entries table.now) bytes.now) }
 {
-    let answer = examine(flags, table, bytes);
+    result(examine(flags, table, bytes))
+}
+
+fn number(answer: Result<u64, Refusal>) -> u64
+    ensures { result ≡ number (outcome_of (λ x. x) answer) }
+{
     match answer {
-        Examination::Accepted(cost) => cost as u64,
-        Examination::Refused(refusal) => refusal.place as u64,
+        Ok(_) => 0,
+        Err(refusal) => refusal.number(),
+    }
+}
+
+fn result(answer: Result<u64, Refusal>) -> u64
+    ensures { result ≡ result_of (outcome_of (λ x. x) answer) }
+{
+    match answer {
+        Ok(result) => result,
+        Err(refusal) => refusal.place as u64,
     }
 }
 
 // Examination of a table in bytes.
-fn examine(flags: usize, table: &[u8], bytes: &[u8]) -> Examination
-    ensures { examination_of result ≡ Calls.examine flags (entries table.now) bytes.now }
+fn examine(flags: usize, table: &[u8], bytes: &[u8]) -> Result<u64, Refusal>
+    ensures { outcome_of (λ c. c) result ≡ Calls.examine flags (entries table.now) bytes.now }
 {
-    if RULE_FLAGS < flags {
-        return Examination::Refused(Refusal {
-            number: TOO_MANY_FLAGS,
-            place: 0,
-        });
-    }
+    let flags = RuleFlags::try_from(flags)?;
     if table.len() / 8 < packed_anf::setting_count(flags) {
-        return Examination::Refused(Refusal {
-            number: SHORT_TABLE,
-            place: 0,
-        });
+        return Err(Reason::ShortTable.at(0));
     }
-    examiner::examine_table(flags, Table::of_bytes(flags, table), bytes)
+    let cost = examiner::examine_table(Table::of_bytes(flags, table), bytes)?;
+    Ok(cost as u64)
 }

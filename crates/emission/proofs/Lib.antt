@@ -1,2 +1,4 @@
+pub mod Parts
+pub mod Whole
 pub mod Choices
 pub mod Remainders

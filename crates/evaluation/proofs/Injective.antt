@@ -2,19 +2,10 @@
 --   evaluation_of-injective   == evaluation's answers
 use mathlib.Core.Path.{◌≡◌, refl}
 use Prim.Native.Nat.{ℕ}
-use Rattle.bits.proofs.Injective.{told-apart}
-use Rattle.rules.specs.Outcome.{Outcome, gives, refuses}
+use Rattle.std.specs.Prelude.{Result}
+use Rattle.rules.proofs.Injective.{outcome_of-injective}
+use Rattle.rules.specs.declared.refusal.Refusal.{Refusal}
 use Rattle.evaluation.specs.Answers.{evaluation_of}
-use Rattle.evaluation.specs.declared.Evaluation.{Evaluation}
-use Rattle.evaluation.specs.declared.Evaluation.TheVariants.{Value, Refused}
 
-abbrev evaluation : Outcome ℕ → Evaluation
-evaluation (gives b) = Value b
-evaluation (refuses k p) = Refused record { number = k; place = p }
-
-evaluation-of : (e : Evaluation) → evaluation (evaluation_of e) ≡ e
-evaluation-of (Value b) = refl
-evaluation-of (Refused r) = refl
-
-pub evaluation_of-injective : (e f : Evaluation) → evaluation_of e ≡ evaluation_of f → e ≡ f
-evaluation_of-injective = told-apart evaluation_of evaluation evaluation-of
+pub evaluation_of-injective : (e f : Result ℕ Refusal) → evaluation_of e ≡ evaluation_of f → e ≡ f
+evaluation_of-injective = outcome_of-injective (λ b. b) (λ b. b) (λ b. refl)

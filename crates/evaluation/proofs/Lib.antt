@@ -1,3 +1,4 @@
-pub mod Values
-pub mod Packed
+pub mod Evaluated
 pub mod Injective
+pub mod Packed
+pub mod Values

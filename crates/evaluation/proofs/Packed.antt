@@ -1,5 +1,6 @@
--- Laws of evaluation's stack as one number: what a record makes of it, and what a walk over it knows. They rest on `packed` of the definitions and
--- on the laws of reader's Stack, Walk and Turn.
+-- A stack of truth values as one number, and the walk over an expression that keeps it so: what a record makes of the number, what is known at each
+-- record, and that the answer at the end is evaluation's. No proof of a function needs these laws today: the code keeps its truth values as the walk
+-- of `walk` keeps any values. They rest on `packed` of the definitions and on the laws of reader's Stack, Walk and Turn.
 --   packed-deep                      == the number of a stack has a bit more than the stack has operands
 --   packed-leaf, packed-unary, packed-binary
 --                                    == the number that a record leaves, by what it makes of the number before it

@@ -1,11 +1,9 @@
 -- Evaluation's answer on paper.
 --   evaluation_of e       == the bit, or a refusal
-use Rattle.std.specs.Prelude.{ℕ}
-use Rattle.rules.specs.Outcome.{Outcome, gives, refuses}
-use Rattle.evaluation.specs.declared.Evaluation.{Evaluation}
-use Rattle.evaluation.specs.declared.Evaluation.TheVariants.{Value, Refused}
+use Rattle.std.specs.Prelude.{ℕ, Result}
+use Rattle.rules.specs.Outcome.{Outcome}
+use Rattle.rules.specs.Refusal.{outcome_of}
+use Rattle.rules.specs.declared.refusal.Refusal.{Refusal}
 
--- `Value(b)`: the bit; `Refused`: the refusal's number and place
-abbrev pub evaluation_of : Evaluation → Outcome ℕ
-evaluation_of (Value b) = gives b
-evaluation_of (Refused r) = refuses r.number r.place
+abbrev pub evaluation_of : Result ℕ Refusal → Outcome ℕ
+evaluation_of = outcome_of (λ b. b)

@@ -3,17 +3,18 @@
 --   flag-none, flag-some     == what is written for a flag that is not set, and for one that is
 --   flag-short               == at most two bytes
 --   named_more               == one flag more
+--   length-named             == two bytes a flag at most
 --   names-none, names-some   == no flag set, and some
 use mathlib.Core.Bool.{Bool, true, false}
 use mathlib.Core.List.{List, [], ◌∷◌, ◌++◌, append_assoc, append-nil}
 use mathlib.Core.Path.{◌≡◌, refl, sym, ap, ◌∙◌}
-use Prim.Native.Nat.{ℕ, ◌+◌, ◌/◌, ◌%◌, ◌^◌, ◌≤◌, ◌<◌}
+use Prim.Native.Nat.{ℕ, zero, suc, ◌+◌, ◌*◌, ◌/◌, ◌%◌, ◌^◌, ◌≤◌, ◌<◌}
 use native.Mathlib.Numerals.{add-one}
 use native.Mathlib.Omega.{arith}
-use lib.ListN.{length}
+use lib.ListN.{length, length-append}
 use borrow.Author.Tests.{eq-eqb, ne_eqb}
 use Rattle.bits.specs.Bit.{bit}
-use Rattle.bits.specs.Range.{upto, keep}
+use Rattle.bits.specs.Range.{from, upto, keep}
 use Rattle.bits.specs.Sum.{sum}
 use Rattle.bits.specs.Word.{places}
 use Rattle.bits.proofs.Range.{upto-suc, keep_append}
@@ -28,22 +29,20 @@ abbrev turn : ℕ → Bool → List ℕ
 turn i b = elim b [ true ↦ ascii " " ++ decimal i | false ↦ [] ]
 
 module _ (w i : ℕ) where
-  pub flag-none : w / 2 ^ i % 2 ≡ 0 → flag_name w i ≡ []
+  pub flag-none : (w / 2 ^ i % 2 ≡ 1 → ⊥) → flag_name w i ≡ []
   unfolding flag_name bit
-  flag-none e = ap (turn i) (ne_eqb (w / 2 ^ i % 2) 1 (λ q. omega arith))
+  flag-none n = ap (turn i) (ne_eqb (w / 2 ^ i % 2) 1 n)
 
-  pub flag-some : (w / 2 ^ i % 2 ≡ 0 → ⊥) → flag_name w i ≡ ascii " " ++ decimal i
+  pub flag-some : w / 2 ^ i % 2 ≡ 1 → flag_name w i ≡ ascii " " ++ decimal i
   unfolding flag_name bit
-  flag-some n =
-      let e : w / 2 ^ i % 2 ≡ 1 = omega arith in
-      ap (turn i) (eq-eqb (w / 2 ^ i % 2) 1 e)
+  flag-some e = ap (turn i) (eq-eqb (w / 2 ^ i % 2) 1 e)
 
   pub flag-short : i < 10 → length (flag_name w i) ≤ 2
   unfolding flag_name ascii
   flag-short h = go (bit w i)
     where
       go : (b : Bool) → length (turn i b) ≤ 2
-      go true = omega (arith, length-decimal 0 i h)
+      go true = omega (arith, length-decimal 1 i (omega arith) (omega arith) (omega arith))
       go false = omega arith
 
 named-append : (a b : List ℕ) → named (a ++ b) ≡ named a ++ named b
@@ -68,6 +67,19 @@ module _ (w i : ℕ) where
       ∙ ap named (keep_append (bit w) (upto i) (i ∷ []))
       ∙ named-append (keep (bit w) (upto i)) (keep (bit w) (i ∷ []))
       ∙ ap (λ (l : List ℕ). named (keep (bit w) (upto i)) ++ l) named-one
+
+pub length-named : (k w : ℕ) → k ≤ 10 → length (named (places k w)) ≤ 2 * k
+unfolding places keep from sum
+length-named zero w h = omega arith
+length-named (suc k) w h =
+    omega (
+      arith,
+      ap (λ (j : ℕ). length (named (places j w))) (sym (add-one k)),
+      ap length (named_more w k),
+      length-append (named (places k w)) (flag_name w k),
+      length-named k w (omega arith),
+      flag-short w k (omega arith),
+    )
 
 pub names-none : (l : List ℕ) → length (named l) ≡ 0 → named l ++ ascii " none" ≡ flag_names l
 unfolding flag_names sum ascii

@@ -1,7 +1,8 @@
 -- What the examining command is to write, by cases: input that is too long or is not two lines, a first line that is no table, a second that is no
 -- rule, and two lines that are. It rests on the definitions of specs/Input and on the parts of the input at newlines (Split).
 --   page-long, page-lines            == input that is too long, and other input
---   lines-one, lines_more, lines_two == no newline before the end; the second newline is not the end; it is
+--   lines-none, lines-one, lines_two, lines-four, lines-more == other parts than two lines and nothing behind them
+--   lines-all, length-second         == two lines, the second no longer than the input
 --   table_none, table-ragged, table-rule == no flag count, or no digits; a table
 --   rule-none, rule-verdict          == no records; records
 --   page-front                       == the first 4096 bytes decide
@@ -9,11 +10,10 @@ use mathlib.Core.Bool.{Bool, true, false}
 use mathlib.Core.List.{List, [], ◌∷◌, ◌++◌}
 use mathlib.Core.Option.{none, some}
 use mathlib.Core.Path.{◌≡◌, refl, sym, ap, ◌∙◌}
-use Prim.Native.Nat.{ℕ, ◌+◌, ◌-◌, ◌≤◌, ◌<◌}
+use Prim.Native.Nat.{ℕ, ◌≤◌, ◌<◌}
 use native.Mathlib.Decide.{dec_lt}
 use native.Mathlib.Omega.{arith}
-use lib.Dec.{eqb}
-use lib.ListN.{length, take, drop, length-drop, drop_of_length-le}
+use lib.ListN.{length, take, length-append}
 use lib.Seq.{take_all, length-take-le}
 use borrow.Author.Tests.{lt-ltb, le-ltb}
 use Rattle.bits.specs.Range.{all}
@@ -22,10 +22,9 @@ use Rattle.rules.specs.Calls.{examine}
 use Rattle.rules.specs.Text.{flags_of}
 use Rattle.text.specs.TableDigits.{is_digit, values}
 use Rattle.examination_text.specs.Input.{longest, too_long, not_lines, not_table, not_rule, of_rule, of_table, of_lines, verdict_page}
-use Rattle.examination_text.specs.Notation.{attach, split, record_texts, is_record, expression}
-use Rattle.examination_text.specs.inner.Parts.{Part}
+use Rattle.examination_text.specs.Notation.{split, record_texts, is_record, expression}
 use Rattle.examination_text.specs.Verdict.{verdict_text}
-use Rattle.examination_text.proofs.Split.{split-first, part-last, part-more}
+use Rattle.examination_text.proofs.Records.{length-parts, length-bytes, expression-first}
 
 -- ---- the input
 
@@ -50,51 +49,64 @@ page-front s = elim (dec_lt longest (length s)) [
 
 -- ---- the lines
 
--- bytes behind the second newline
-lines-behind : (one two l : List ℕ) → 0 < length l → of_lines (one ∷ two ∷ split 10 l) ≡ not_lines
-unfolding of_lines split attach
-lines-behind one two [] h = absurd (omega arith)
-lines-behind one two (x ∷ l) h =
-    let f = split-first 10 l in
-    ap (λ (ts : List (List ℕ)). of_lines (one ∷ two ∷ elim (eqb x 10) [ true ↦ [] ∷ ts | false ↦ attach x ts ])) f.2 ∙ go f.0 f.1 (eqb x 10)
-  where
-    go : (t : List ℕ) (ts : List (List ℕ)) (b : Bool) → of_lines (one ∷ two ∷ elim b [ true ↦ [] ∷ t ∷ ts | false ↦ attach x (t ∷ ts) ]) ≡ not_lines
-    go t ts true = refl
-    go t ts false = refl
-
-module _ {s : List ℕ} {r : ℕ} (p : Part 10 s 0 r) where
-  pub lines-one : r ≡ length s → of_lines (split 10 s) ≡ not_lines
+-- the parts l of the input in turn, each with those behind it
+module _ (s : List ℕ) {l : List (List ℕ)} (start : l ≡ split 10 s) where
+  pub lines-none : l ≡ [] → of_lines (split 10 s) ≡ not_lines
   unfolding of_lines
-  lines-one e = ap of_lines (part-last p e)
+  lines-none e = ap of_lines (sym start ∙ e)
 
-  module _ (n : r ≡ length s → ⊥) {q : ℕ} (d : Part 10 s (r + 1) q) where
-    abbrev one : List ℕ
-    one = take r s
-
-    abbrev two : List ℕ
-    two = take (q - (r + 1)) (drop (r + 1) s)
-
-    lines-first : split 10 s ≡ one ∷ split 10 (drop (r + 1) s)
-    lines-first =
-        let e : r - 0 ≡ r = omega arith in
-        part-more p n ∙ ap {B = List (List ℕ)} (λ k. take k s ∷ split 10 (drop (r + 1) s)) e
-
-    lines-both : (q ≡ length s → ⊥) → split 10 s ≡ one ∷ two ∷ split 10 (drop (q + 1) s)
-    lines-both m = lines-first ∙ ap {B = List (List ℕ)} (λ ts. one ∷ ts) (part-more d m)
-
-    pub lines_more : (q + 1 ≡ length s → ⊥) → of_lines (split 10 s) ≡ not_lines
+  module _ {one : List ℕ} {l₁ : List (List ℕ)} (first : l ≡ one ∷ l₁) where
+    pub lines-one : l₁ ≡ [] → of_lines (split 10 s) ≡ not_lines
     unfolding of_lines
-    lines_more m = elim (dec_lt q (length s)) [
-      | yes h ↦ ap of_lines (lines-both (omega arith)) ∙ lines-behind one two (drop (q + 1) s) (omega (arith, length-drop (q + 1) s))
-      | no h ↦
-          ap of_lines (lines-first ∙ ap {B = List (List ℕ)} (λ ts. one ∷ ts) (part-last d (omega (arith, d.within))))
-    ]
+    lines-one e = ap of_lines (sym start ∙ first ∙ ap {B = List (List ℕ)} (λ ls. one ∷ ls) e)
 
-    pub lines_two : q + 1 ≡ length s → of_lines (split 10 s) ≡ of_table one two (flags_of (length one))
-    unfolding of_lines split
-    lines_two m =
-        ap of_lines (lines-both (omega arith)
-        ∙ ap (λ (l : List ℕ). one ∷ two ∷ split 10 l) (drop_of_length-le s {i = q + 1} (omega arith)))
+    module _ {two : List ℕ} {l₂ : List (List ℕ)} (second : l₁ ≡ two ∷ l₂) where
+      both : split 10 s ≡ one ∷ two ∷ l₂
+      both = sym start ∙ first ∙ ap {B = List (List ℕ)} (λ ls. one ∷ ls) second
+
+      pub lines_two : l₂ ≡ [] → of_lines (split 10 s) ≡ not_lines
+      unfolding of_lines
+      lines_two e = ap of_lines (both ∙ ap {B = List (List ℕ)} (λ ls. one ∷ two ∷ ls) e)
+
+      pub length-second : length two ≤ length s
+      length-second =
+          omega (
+            arith,
+            length-parts 10 s,
+            ap (λ (ls : List (List ℕ)). length (expression ls)) (sym start),
+            ap length (expression-first first),
+            ap length (expression-first second),
+            length-append {A = ℕ},
+            length-bytes two,
+          )
+
+      module _ {rest : List ℕ} {l₃ : List (List ℕ)} (third : l₂ ≡ rest ∷ l₃) where
+        three : (ls : List (List ℕ)) → l₃ ≡ ls → split 10 s ≡ one ∷ two ∷ rest ∷ ls
+        three ls e = both ∙ ap {B = List (List ℕ)} (λ k. one ∷ two ∷ k) (third ∙ ap {B = List (List ℕ)} (λ k. rest ∷ k) e)
+
+        pub lines-four : {more : List ℕ} {l₄ : List (List ℕ)} → l₃ ≡ more ∷ l₄ → of_lines (split 10 s) ≡ not_lines
+        unfolding of_lines
+        lines-four {more} {l₄} e = ap of_lines (three (more ∷ l₄) e) ∙ go rest
+          where
+            go : (r : List ℕ) → of_lines (one ∷ two ∷ r ∷ more ∷ l₄) ≡ not_lines
+            go [] = refl
+            go (x ∷ r) = refl
+
+        pub lines-more : l₃ ≡ [] → (length rest ≡ 0 → ⊥) → of_lines (split 10 s) ≡ not_lines
+        unfolding of_lines
+        lines-more e n = ap of_lines (three [] e) ∙ go rest n
+          where
+            go : (r : List ℕ) → (length r ≡ 0 → ⊥) → of_lines (one ∷ two ∷ r ∷ []) ≡ not_lines
+            go [] m = absurd (m refl)
+            go (x ∷ r) m = refl
+
+        pub lines-all : l₃ ≡ [] → length rest ≡ 0 → of_lines (split 10 s) ≡ of_table one two (flags_of (length one))
+        unfolding of_lines
+        lines-all e n = ap of_lines (three [] e) ∙ go rest n
+          where
+            go : (r : List ℕ) → length r ≡ 0 → of_lines (one ∷ two ∷ r ∷ []) ≡ of_table one two (flags_of (length one))
+            go [] m = refl
+            go (x ∷ r) m = absurd (omega arith)
 
 -- ---- the table and the rule
 

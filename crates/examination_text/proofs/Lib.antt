@@ -1,9 +1,11 @@
 pub mod Split
 pub mod Records
-pub mod Rule
-pub mod Walk
 pub mod Flags
 pub mod Reasons
 pub mod Input
 pub mod Example
 pub mod Rows
+pub mod PartsAt
+pub mod LinesAt
+pub mod RuleAt
+pub mod WalkAt

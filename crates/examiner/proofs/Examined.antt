@@ -3,14 +3,14 @@
 -- word holds (laws, WordTable) and on the laws of rows and outcomes (laws, Checked and Outcome).
 --   examine-truth                  == document 01's examination, once rows 1 and 2 are passed
 --   examine_truth-ext               == functions that agree at every setting are examined alike
---   examine-table                  == past those rows, the examination against the table by value
+--   examine-entries                == past those rows, the examination against a function that has a table's bits
+--   examine-table                  == so against the table by value
 --   examine-word                   == and against the table that a word holds
 --   examine-walked                 == the examination from the walk's answer with the words of the flags
---   examine-word-walked            == that against the table that a word holds, from the walk's answer
---   verdict-costly, verdict-accepts == row 13, and past it, where no setting differs
+--   judged-differs                 == row 12
+--   judged-costly, judged-accepts  == row 13, and past it, where no setting differs
 use mathlib.Core.Bool.{Bool}
 use mathlib.Core.List.{List, [], ◌∷◌, map}
-use mathlib.Core.Option.{none}
 use mathlib.Core.Path.{◌≡◌, refl, sym, ap, ap₂, ◌∙◌}
 use Prim.Native.Nat.{ℕ, ◌^◌, ◌≤◌, ◌<◌}
 use native.Mathlib.Omega.{arith}
@@ -21,21 +21,24 @@ use Rattle.bits.specs.Range.{upto}
 use Rattle.rules.specs.Calls.{with_table, table_form, differences, judged, examine}
 use Rattle.rules.specs.Coefficient.{coefficient}
 use Rattle.rules.specs.Form.{raw_cost}
-use Rattle.rules.specs.Limits.{rule_flags, too_costly}
+use Rattle.rules.specs.Limits.{rule_flags, differs, too_costly}
+use Rattle.rules.specs.declared.flags.Flags.{Flags}
+use Rattle.std.specs.Prelude.{Some, None}
+use Rattle.std.specs.Prelude as code
+use Rattle.bits.specs.Range.{keep}
 use Rattle.rules.specs.Machine.{made}
 use Rattle.rules.specs.Monomial.{form}
 use Rattle.rules.specs.Outcome.{Outcome, gives, refuses, ◌then◌}
-use Rattle.rules.specs.Table.{entry, word_table}
+use Rattle.rules.specs.Table.{entry, word_table, settings}
 use Rattle.rules.specs.Tree.{Tree, value, cost}
 use Rattle.laws.proofs.calls.Checked.{table-complete}
 use Rattle.laws.proofs.calls.Outcome.{then-ext, then-then}
 use Rattle.laws.proofs.calls.WordTable.{length-word_table, entry-word_table}
 use Rattle.mask_words.specs.Lookup.{flag_word}
-use Rattle.lanes.specs.Answers.{walked_of}
 use Rattle.lanes.specs.Lanes.{seen}
-use Rattle.lanes.specs.declared.Seen.{Seen}
-use Rattle.lanes.specs.declared.Walked.{Walked}
-use Rattle.table.specs.Truth.{truth, table_of, first}
+use Rattle.walk.specs.Walked.{walked}
+use Rattle.walk.specs.declared.Seen.{Seen}
+use Rattle.table.specs.Truth.{truth, table_of, first, difference_of}
 use Rattle.table.specs.declared.Table.{Table}
 use Rattle.table.proofs.Truth.{keep-settings, truth-table_of, form-ext}
 use Rattle.examiner.specs.Examined.{examine_truth}
@@ -63,41 +66,55 @@ module _ (n : ℕ) where
       (keep-settings n _ _ (λ at l. ap (λ (b : Bool). value t at ⊕ b) (h at l))))
 
   module _ (few : n ≤ rule_flags) where
-    pub examine-table : (table s : List ℕ) → 2 ^ n ≤ length table → (t : Table) → t ≡ table_of n (entry table)
-        → examine_truth n (truth t) s ≡ examine n table s
-    examine-table table s enough t e =
-        ap (λ (x : Table). examine_truth n (truth x) s) e
-        ∙ examine_truth-ext (truth (table_of n (entry table))) (entry table) s (truth-table_of n (entry table))
-        ∙ sym (examine-truth n table s ∙ table-complete rule_flags n table _ few enough)
+    pub examine-entries : (table s : List ℕ) → 2 ^ n ≤ length table → (f : ℕ → Bool) → ((at : ℕ) → at < 2 ^ n → f at ≡ entry table at)
+        → examine_truth n f s ≡ examine n table s
+    examine-entries table s enough f h =
+        examine_truth-ext f (entry table) s h ∙ sym (examine-truth n table s ∙ table-complete rule_flags n table _ few enough)
 
     pub examine-word : (w : ℕ) (s : List ℕ) → examine_truth n (bit w) s ≡ examine n (word_table n w) s
     examine-word w s =
-        examine_truth-ext (bit w) (entry (word_table n w)) s (λ at l. sym (entry-word_table n w at l))
-        ∙ sym (examine-truth n (word_table n w) s ∙ table-complete rule_flags n (word_table n w) _ few (omega (arith, length-word_table n w)))
+        examine-entries (word_table n w) s (omega (arith, length-word_table n w)) (bit w) (λ at l. sym (entry-word_table n w at l))
 
     -- ---- from the walk
 
-    pub examine-walked : (ws : List ℕ) → ws ≡ map flag_word (upto rule_flags) → (f : ℕ → Bool) (s : List ℕ)
+    examine-seen : (ws : List ℕ) → ws ≡ map flag_word (upto rule_flags) → (f : ℕ → Bool) (s : List ℕ)
         → examine_truth n f s ≡ (seen n s ws then (λ v. judgment n f v))
-    unfolding examine_truth seen judgment
-    examine-walked ws e f s =
+    unfolding examine_truth walked judgment
+    examine-seen ws e f s =
         let raw : ℕ = raw_cost (form n (coefficient n f)) in
         then-ext (made n s) _ _ (λ t. judged-verdict raw t _ ∙ ap (λ (l : List ℕ). verdict raw (cost t) (first l))
         (keep-settings n _ _ (λ at l. ap (λ (b : Bool). b ⊕ f at) (sym (bit-values ws e n at few l t)))))
         ∙ then-then (made n s) _ _
 
-    pub examine-word-walked : (ws : List ℕ) → ws ≡ map flag_word (upto rule_flags) → (w : ℕ) (s : List ℕ) (o : Walked) → walked_of o ≡ seen n s ws
-        → examine n (word_table n w) s ≡ (walked_of o then (λ v. judgment n (bit w) v))
-    examine-word-walked ws e w s o is =
-        sym (examine-word w s) ∙ examine-walked ws e (bit w) s ∙ ap (λ (x : Outcome Seen). x then (λ v. judgment n (bit w) v)) (sym is)
+    pub examine-walked : {ws : List ℕ} → ws ≡ map flag_word (upto rule_flags) → (f : ℕ → Bool) (s : List ℕ) {o : Outcome (Seen ℕ)} → o ≡ seen n s ws
+        → (o then (λ v. judgment n f v)) ≡ examine_truth n f s
+    examine-walked e f s is =
+        ap (λ (o : Outcome (Seen ℕ)). o then (λ v. judgment n f v)) is ∙ sym (examine-seen _ e f s)
+
+pub examine-table : (n : Flags 6) (table s : List ℕ) → 2 ^ n.count ≤ length table → (t : Table) → t ≡ table_of n (entry table)
+    → examine_truth t.flags.count (truth t) s ≡ examine n.count table s
+examine-table n table s enough t e =
+    ap (λ (x : Table). examine_truth x.flags.count (truth x) s) e
+    ∙ examine-entries n.count n.within table s enough (truth (table_of n (entry table))) (truth-table_of n (entry table))
 
 -- ---- the verdict
 
-module _ (raw c : ℕ) where
-  pub verdict-costly : raw < c → verdict raw c none ≡ refuses too_costly c
-  unfolding verdict
-  verdict-costly h = rw (lt-ltb raw c h)
+module _ (n : ℕ) (f : ℕ → Bool) (v : Seen ℕ) where
+  abbrev raw : ℕ
+  raw = raw_cost (form n (coefficient n f))
 
-  pub verdict-accepts : c ≤ raw → verdict raw c none ≡ gives c
-  unfolding verdict
-  verdict-accepts h = rw (le-ltb raw c h)
+  abbrev apart : List ℕ
+  apart = keep (λ s. bit v.value s ⊕ f s) (settings n)
+
+  pub judged-differs : {o : code.Option ℕ} (s : ℕ) → difference_of o ≡ first apart → o ≡ Some s → judgment n f v ≡ refuses differs s
+  unfolding judgment verdict
+  judged-differs s told e = ap (verdict raw v.cost) (sym told ∙ ap difference_of e)
+
+  module _ {o : code.Option ℕ} (told : difference_of o ≡ first apart) (e : o ≡ None) {r : ℕ} (is : r ≡ raw) where
+    pub judged-costly : r < v.cost → judgment n f v ≡ refuses too_costly v.cost
+    unfolding judgment verdict
+    judged-costly h = ap (verdict raw v.cost) (sym told ∙ ap difference_of e) ∙ rw (lt-ltb raw v.cost (omega (arith, h, is)))
+
+    pub judged-accepts : v.cost ≤ r → judgment n f v ≡ gives v.cost
+    unfolding judgment verdict
+    judged-accepts h = ap (verdict raw v.cost) (sym told ∙ ap difference_of e) ∙ rw (le-ltb raw v.cost (omega (arith, h, is)))

@@ -2,19 +2,10 @@
 --   examination_of-injective  == the examiner's answers
 use mathlib.Core.Path.{◌≡◌, refl}
 use Prim.Native.Nat.{ℕ}
-use Rattle.bits.proofs.Injective.{told-apart}
-use Rattle.rules.specs.Outcome.{Outcome, gives, refuses}
+use Rattle.std.specs.Prelude.{Result}
+use Rattle.rules.proofs.Injective.{outcome_of-injective}
+use Rattle.rules.specs.declared.refusal.Refusal.{Refusal}
 use Rattle.examiner.specs.Answers.{examination_of}
-use Rattle.examiner.specs.declared.Examination.{Examination}
-use Rattle.examiner.specs.declared.Examination.TheVariants.{Accepted, Refused}
 
-abbrev examination : Outcome ℕ → Examination
-examination (gives c) = Accepted c
-examination (refuses k p) = Refused record { number = k; place = p }
-
-examination-of : (e : Examination) → examination (examination_of e) ≡ e
-examination-of (Accepted c) = refl
-examination-of (Refused r) = refl
-
-pub examination_of-injective : (e f : Examination) → examination_of e ≡ examination_of f → e ≡ f
-examination_of-injective = told-apart examination_of examination examination-of
+pub examination_of-injective : (e f : Result ℕ Refusal) → examination_of e ≡ examination_of f → e ≡ f
+examination_of-injective = outcome_of-injective (λ c. c) (λ c. c) (λ c. refl)

@@ -1,3 +1,4 @@
 pub mod Settings
 pub mod Examined
 pub mod Injective
+pub mod WordWalked

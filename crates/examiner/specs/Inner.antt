@@ -11,7 +11,7 @@ use Rattle.rules.specs.Limits.{differs, too_costly}
 use Rattle.rules.specs.Monomial.{form}
 use Rattle.rules.specs.Outcome.{Outcome, gives, refuses, refuse}
 use Rattle.rules.specs.Table.{settings}
-use Rattle.lanes.specs.declared.Seen.{Seen}
+use Rattle.walk.specs.declared.Seen.{Seen}
 use Rattle.table.specs.Truth.{first}
 
 -- "differs from the table" at the "smallest such setting"; "cost above raw cost", place "the cost"
@@ -19,5 +19,5 @@ unfoldable pub verdict : ℕ → ℕ → Option ℕ → Outcome ℕ
 verdict raw c (some s) = refuses differs s
 verdict raw c none = refuse (ltb raw c) too_costly c (gives c)
 
-unfoldable pub judgment : ℕ → (ℕ → Bool) → Seen → Outcome ℕ
-judgment n f v = verdict (raw_cost (form n (coefficient n f))) v.cost (first (keep (λ at. bit v.values at ⊕ f at) (settings n)))
+unfoldable pub judgment : ℕ → (ℕ → Bool) → Seen ℕ → Outcome ℕ
+judgment n f v = verdict (raw_cost (form n (coefficient n f))) v.cost (first (keep (λ at. bit v.value at ⊕ f at) (settings n)))

@@ -1,100 +1,59 @@
 // The examiner: whether an expression, whoever wrote it, is well formed, agrees with its table at every setting and costs no more than the raw
-// form. It walks the bytes once, with all settings of the table side by side in one word. It rests on `lanes` and `table`.
+// form. It walks the bytes once, with all settings of the table side by side in one word. It rests on `walk`, `lanes` and `table`.
 #![tactic(auto)]
 
-ghost use Rattle.std.proofs.Math.Option.{none};
-ghost use Rattle.std.specs.Prelude.{◌≡◌, ◌≤◌};
+ghost use Rattle.std.specs.Prelude.{◌≡◌};
 ghost use Rattle.rules.specs.Calls;
-ghost use Rattle.rules.specs.Limits.{rule_flags};
 ghost use Rattle.rules.specs.Table.{word_table};
 ghost use Rattle.table.specs.Truth.{truth};
 ghost use Rattle.examiner.specs.Answers.{examination_of};
 ghost use Rattle.examiner.specs.Examined.{examine_truth};
-ghost use Rattle.examiner.specs.Inner.{verdict, judgment};
+ghost use Rattle.examiner.specs.Inner.{judgment};
 
-use lanes::{Seen, Walked};
-use rules::{DIFFERS, RULE_FLAGS, Refusal, SHORT_TABLE, TOO_COSTLY, TOO_MANY_FLAGS};
-use table::{Difference, Table};
+use lanes::Lanes;
+use rules::{Reason, Refusal, RuleFlags};
+use table::Table;
+use walk::Seen;
 
-// The cost of an expression that is accepted, or the refusal.
-#[derive(Clone, Copy)]
-pub enum Examination {
-    Accepted(usize),
-    Refused(Refusal),
-}
-
-fn refused(number: u64, place: usize) -> Examination
-    ensures { result ≡ Examination.Refused (record { number = number; place = place }) }
-{
-    Examination::Refused(Refusal { number, place })
-}
-
-// The examination of an expression against a table.
-pub fn examine(flags: usize, table: &[u64], bytes: &[u8]) -> Examination
+// The cost of an expression that is accepted against a table.
+pub fn examine(flags: usize, table: &[u64], bytes: &[u8]) -> Result<usize, Refusal>
     ensures { examination_of result ≡ Calls.examine flags table.now bytes.now }
 {
-    if RULE_FLAGS < flags {
-        return refused(TOO_MANY_FLAGS, 0);
-    }
+    let flags = RuleFlags::try_from(flags)?;
     if table.len() < packed_anf::setting_count(flags) {
-        return refused(SHORT_TABLE, 0);
+        return Err(Reason::ShortTable.at(0));
     }
-    examine_table(flags, Table::of_entries(flags, table), bytes)
+    examine_table(Table::of_entries(flags, table), bytes)
+}
+
+// The same against the table that a word holds, bit s for setting s.
+pub fn examine_word(flags: RuleFlags, word: u64, bytes: &[u8]) -> Result<usize, Refusal>
+    ensures { examination_of result ≡ Calls.examine flags.count (word_table flags.count word) bytes.now }
+{
+    examine_table(Table::of_word(flags, word), bytes)
 }
 
 // The same against a table by value.
-pub fn examine_table(flags: usize, table: Table, bytes: &[u8]) -> Examination
-    requires { flags ≤ rule_flags }
-    ensures { examination_of result ≡ examine_truth flags (truth table) bytes.now }
+pub fn examine_table(table: Table, bytes: &[u8]) -> Result<usize, Refusal>
+    ensures { examination_of result ≡ examine_truth table.flags.count (truth table) bytes.now }
 {
     let words = table::flag_words();
-    match lanes::walk(flags, bytes, &words) {
-        Walked::Values(seen) => judge(flags, table, seen),
-        Walked::Refused(refusal) => Examination::Refused(refusal),
-    }
-}
-
-// The same against the table that a word holds, bit s for setting s: for the reader of a package, and below for the writer. With one caller each,
-// both are inlined there (docs/DECISIONS.md).
-pub fn examine_for_reader(flags: usize, word: u64, bytes: &[u8]) -> Examination
-    requires { flags ≤ rule_flags }
-    ensures { examination_of result ≡ Calls.examine flags (word_table flags word) bytes.now }
-{
-    let words = table::flag_words();
-    match lanes::walk_for_reader(flags, bytes, &words) {
-        Walked::Values(seen) => judge(flags, Table::of_word(word), seen),
-        Walked::Refused(refusal) => Examination::Refused(refusal),
-    }
-}
-
-pub fn examine_for_writer(flags: usize, word: u64, bytes: &[u8]) -> Examination
-    requires { flags ≤ rule_flags }
-    ensures { examination_of result ≡ Calls.examine flags (word_table flags word) bytes.now }
-{
-    let words = table::flag_words();
-    match lanes::walk_for_writer(flags, bytes, &words) {
-        Walked::Values(seen) => judge(flags, Table::of_word(word), seen),
-        Walked::Refused(refusal) => Examination::Refused(refusal),
-    }
+    let lanes = Lanes {
+        flags: table.flags,
+        words: &words,
+    };
+    judge(table, walk::walk(&lanes, bytes)?)
 }
 
 // The verdict on an expression of which the walk saw this.
-fn judge(flags: usize, table: Table, seen: Seen) -> Examination
-    requires { flags ≤ rule_flags }
-    ensures { examination_of result ≡ judgment flags (truth table) seen }
+fn judge(table: Table, seen: Seen<u64>) -> Result<usize, Refusal>
+    ensures { examination_of result ≡ judgment table.flags.count (truth table) seen }
 {
-    match table.difference(flags, seen.values) {
-        Difference::At(setting) => refused(DIFFERS, setting),
-        Difference::None => judge_cost(table.form(flags).raw_cost(), seen.cost),
+    if let Some(setting) = table.difference(seen.value) {
+        return Err(Reason::Differs.at(setting));
     }
-}
-
-// The verdict on an expression that agrees with the table.
-fn judge_cost(raw: usize, cost: usize) -> Examination
-    ensures { examination_of result ≡ verdict raw cost none }
-{
-    if raw < cost {
-        return refused(TOO_COSTLY, cost);
+    if table.form().raw_cost() < seen.cost {
+        return Err(Reason::TooCostly.at(seen.cost));
     }
-    Examination::Accepted(cost)
+    Ok(seen.cost)
 }

@@ -17,6 +17,5 @@ pub fn run<R: Read, W: Write>(input: &mut R, output: &mut W) -> io::Result<()>
 {
     let mut lines = [0u8; 4096];
     let length = fronts::read(input, &mut lines)?;
-    let page = examination_text::examine_rule(&lines[..length]);
-    pages::write(output, page)
+    pages::write(output, examination_text::examine_rule(&lines[..length]))
 }

@@ -4,13 +4,14 @@
 --   found_of-injective        == what begins at a place
 use mathlib.Core.Path.{◌≡◌, refl, ap}
 use Rattle.bits.proofs.Injective.{told-apart}
-use Rattle.rules.specs.Outcome.{Outcome, gives, refuses}
+use Rattle.std.specs.Prelude.{Result}
+use Rattle.rules.proofs.Injective.{outcome_of-injective}
+use Rattle.rules.specs.declared.refusal.Refusal.{Refusal}
 use Rattle.rules.specs.Record as paper
-use Rattle.expr.specs.Answers.{kind_of, found_of}
+use Rattle.expr.specs.Answers.{kind_of, record_of, found_of}
 use Rattle.expr.specs.declared.Kind.{Kind}
 use Rattle.expr.specs.declared.Kind.TheVariants.{Constant, Variable, And, Or, Xor, Not}
-use Rattle.expr.specs.declared.Found.{Found}
-use Rattle.expr.specs.declared.Found.TheVariants.{Whole, Refused}
+use Rattle.expr.specs.declared.Record.{Record}
 
 abbrev pub kind : paper.Kind → Kind
 kind (paper.Constant b) = Constant b
@@ -31,13 +32,11 @@ kind-of Not = refl
 pub kind_of-injective : (k j : Kind) → kind_of k ≡ kind_of j → k ≡ j
 kind_of-injective = told-apart kind_of kind kind-of
 
-abbrev found : Outcome paper.Found → Found
-found (gives r) = Whole record { kind = kind r.kind; next = r.next }
-found (refuses k p) = Refused record { number = k; place = p }
+abbrev read : paper.Found → Record
+read r = record { kind = kind r.kind; next = r.next }
 
-found-of : (f : Found) → found (found_of f) ≡ f
-found-of (Whole r) = ap (λ (k : Kind). Whole record { kind = k; next = r.next }) (kind-of r.kind)
-found-of (Refused r) = refl
+read-of : (r : Record) → read (record_of r) ≡ r
+read-of r = ap (λ (k : Kind). record { kind = k; next = r.next }) (kind-of r.kind)
 
-pub found_of-injective : (f g : Found) → found_of f ≡ found_of g → f ≡ g
-found_of-injective = told-apart found_of found found-of
+pub found_of-injective : (f g : Result Record Refusal) → found_of f ≡ found_of g → f ≡ g
+found_of-injective = outcome_of-injective record_of read read-of

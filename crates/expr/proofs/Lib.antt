@@ -1,3 +1,4 @@
 pub mod ReadRecord
 pub mod Marks
 pub mod Injective
+pub mod Again

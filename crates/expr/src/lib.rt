@@ -7,7 +7,7 @@ ghost use Rattle.rules.specs.Record.{operand_count};
 ghost use Rattle.expr.specs.Answers.{found_of, kind_of};
 ghost use Rattle.expr.specs.Inner.{or_of, record_over, operator_at, constant_at, flag_at};
 
-use rules::{BAD_MARK, BAD_PAYLOAD, FEW_OPERANDS, Refusal};
+use rules::{Reason, Refusal};
 
 // The marks: two ASCII letters as one number, the first letter high.
 const CO: u16 = 0x434f;
@@ -23,7 +23,7 @@ const XO: u16 = 0x584f;
 const NO: u16 = 0x4e4f;
 
 // What a record is, with its payload.
-#[derive(Clone, Copy)]
+#[derive(Clone, Copy, Debug, PartialEq, Eq)]
 pub enum Kind {
     Constant(bool),
     Variable(u8),
@@ -34,127 +34,104 @@ pub enum Kind {
 }
 
 // A record, and the place after it.
-#[derive(Clone, Copy)]
+#[derive(Clone, Copy, Debug, PartialEq, Eq)]
 pub struct Record {
     pub kind: Kind,
     pub next: usize,
 }
 
-// What begins at a place: a whole record, or one that is refused by rows 6, 7 or 8.
-#[derive(Clone, Copy)]
-pub enum Found {
-    Whole(Record),
-    Refused(Refusal),
-}
-
-// How many operands a record takes from the stack.
-pub fn arity(kind: Kind) -> usize
-    ensures { result ≡ operand_count (kind_of kind) }
-{
-    match kind {
-        Kind::Constant(_) => 0,
-        Kind::Variable(_) => 0,
-        Kind::And => 2,
-        Kind::Or => 2,
-        Kind::Xor => 2,
-        Kind::Not => 1,
+impl Kind {
+    // How many operands a record takes from the stack.
+    #[inline]
+    pub fn arity(self) -> usize
+        ensures { result ≡ operand_count (kind_of self) }
+    {
+        match self {
+            Kind::Constant(_) | Kind::Variable(_) => 0,
+            Kind::Not => 1,
+            Kind::And | Kind::Or | Kind::Xor => 2,
+        }
     }
-}
 
-// Whether a record is an OR.
-pub fn is_or(kind: Kind) -> bool
-    ensures { result ≡ or_of (kind_of kind) }
-{
-    match kind {
-        Kind::Constant(_) => false,
-        Kind::Variable(_) => false,
-        Kind::And => false,
-        Kind::Or => true,
-        Kind::Xor => false,
-        Kind::Not => false,
+    // Whether a record is an OR.
+    #[inline]
+    pub fn is_or(self) -> bool
+        ensures { result ≡ or_of (kind_of self) }
+    {
+        matches!(self, Kind::Or)
     }
 }
 
 // The record that begins at a place before the end of the bytes, where so many operands are left by the records before it. What its arms share is
 // made before them, so that the whole is small enough to be inlined into every walk (docs/DECISIONS.md).
-pub fn record_at(flags: usize, bytes: &[u8], depth: usize, place: usize) -> Found
+#[inline]
+pub fn record_at(flags: usize, bytes: &[u8], depth: usize, place: usize) -> Result<Record, Refusal>
     requires { place < length bytes.now }
     ensures { found_of result ≡ record_over flags bytes.now depth place }
 {
     let left = bytes.len() - place;
     if left < 2 {
-        return refused(BAD_MARK, place);
+        return Err(Reason::BadMark.at(place));
     }
     let next = place + 2;
     let none = depth < 1;
     let few = depth < 2;
-    let mark = letters(bytes[place], bytes[place + 1]);
-    match mark {
+    match u16::from_be_bytes([bytes[place], bytes[place + 1]]) {
         CO => constant(bytes, place, left),
         VA => variable(flags, bytes, place, left),
         AN => operator(Kind::And, few, place, next),
         OR => operator(Kind::Or, few, place, next),
         XO => operator(Kind::Xor, few, place, next),
         NO => operator(Kind::Not, none, place, next),
-        _ => refused(BAD_MARK, place),
+        _ => Err(Reason::BadMark.at(place)),
     }
-}
-
-// Two letters as one number.
-fn letters(first: u8, second: u8) -> u16
-    ensures { result ≡ first * 256 + second }
-{
-    (first as u16) * 256 + (second as u16)
-}
-
-fn refused(number: u64, place: usize) -> Found
-    ensures { result ≡ Found.Refused (record { number = number; place = place }) }
-{
-    Found::Refused(Refusal { number, place })
 }
 
 // An operator's record, which is refused where its operands are too few.
-fn operator(kind: Kind, few: bool, place: usize, next: usize) -> Found
+#[inline]
+fn operator(kind: Kind, few: bool, place: usize, next: usize) -> Result<Record, Refusal>
     ensures { found_of result ≡ operator_at (kind_of kind) few place next }
 {
     if few {
-        return refused(FEW_OPERANDS, place);
+        return Err(Reason::FewOperands.at(place));
     }
-    Found::Whole(Record { kind, next })
+    Ok(Record { kind, next })
 }
 
 // A constant's record: the payload is 0 or 1.
-fn constant(bytes: &[u8], place: usize, left: usize) -> Found
+#[inline]
+fn constant(bytes: &[u8], place: usize, left: usize) -> Result<Record, Refusal>
     requires { place + left ≡ length bytes.now }
     ensures { found_of result ≡ constant_at bytes.now place }
 {
     if left < 3 {
-        return refused(BAD_PAYLOAD, place);
+        return Err(Reason::BadPayload.at(place));
     }
     let payload = bytes[place + 2];
     match payload {
-        0..=1 => Found::Whole(Record {
+        0..=1 => Ok(Record {
             kind: Kind::Constant(payload == 1),
             next: place + 3,
         }),
-        _ => refused(BAD_PAYLOAD, place),
+        _ => Err(Reason::BadPayload.at(place)),
     }
 }
 
 // A flag's record: the payload is an index below the flag count.
-fn variable(flags: usize, bytes: &[u8], place: usize, left: usize) -> Found
+#[inline]
+fn variable(flags: usize, bytes: &[u8], place: usize, left: usize) -> Result<Record, Refusal>
     requires { place + left ≡ length bytes.now }
     ensures { found_of result ≡ flag_at flags bytes.now place }
 {
     if left < 3 {
-        return refused(BAD_PAYLOAD, place);
+        return Err(Reason::BadPayload.at(place));
     }
     let payload = bytes[place + 2];
     if (payload as usize) < flags {
-        return Found::Whole(Record {
+        return Ok(Record {
             kind: Kind::Variable(payload),
             next: place + 3,
         });
     }
-    refused(BAD_PAYLOAD, place)
+    Err(Reason::BadPayload.at(place))
 }

@@ -1,32 +1,22 @@
--- Laws of a record's depth: the stack of depths follows the trees of the machine's stack, and since a tree is no deeper than its records are many,
--- every depth fits. They rest on the definitions of rules' Tree and on the laws of reader's Walk and Costed.
+-- Laws of a record's depth: it is made of its operands' depths, and since a tree is no deeper than its records are many, it fits. They rest on the
+-- definitions of rules' Tree and of walk's Walked.
 --   depth-size         == a tree is no deeper than it has records
---   deepened k x y     == the depth of a record of kind k, from its operands' depths
---   depth-folds        == a record's depth comes from its operands' depths
---   deepest-limit      == the depth of the next record is at most the record limit
---   depth_below        == a record that is pushed has an entry
---   depth-step         == one record more in the code's walk
---   depth-full         == a record is stopped only over arrays with no more entries than there may be records
-use mathlib.Core.Bool.{Bool}
-use mathlib.Core.List.{List}
-use mathlib.Core.Path.{◌≡◌, refl, subst}
-use Prim.Native.Nat.{ℕ, ◌+◌, ◌≤◌, ◌<◌}
+--   deepest k x y      == the depth of a record with k operands, from their depths, of which it uses as many as it has
+--   deepest-two        == with more than one operand it is one more than the larger
+--   depth-applied      == a record's depth is made of its operands' depths
+--   depth-told         == so where the number of operands is told
+--   depth-limit        == and at most the record limit
+use mathlib.Core.Path.{◌≡◌, refl, ap, ◌∙◌}
+use Prim.Native.Nat.{ℕ, zero, suc, ◌+◌, ◌≤◌}
 use native.Mathlib.Nat.{le_refl}
 use native.Mathlib.Omega.{arith}
 use lib.Dec.{lit≤}
-use lib.ListN.{get_or, set}
+use Rattle.std.specs.Prelude.{max}
 use Rattle.rules.specs.Limits.{record_limit}
-use Rattle.rules.specs.Record.{Kind, Constant, Flag, And, Or, Xor, Not, Found, operand_count}
+use Rattle.rules.specs.Record.{Kind, Constant, Flag, And, Or, Xor, Not, operand_count}
 use Rattle.rules.specs.Tree.{Tree, CO, VA, AN, OR, XO, NO, size, depth}
-use Rattle.expr.specs.Inner.{or_of}
-use Rattle.reader.specs.Inner.{begun}
-use Rattle.reader.proofs.Turn.{Stepped}
-use Rattle.reader.proofs.Walk.{Folds, grown, walk-size}
-use Rattle.reader.proofs.Costed.{Costed, costed-fold, costed-step}
-use Rattle.expr_cost.specs.Inner.{deepest, Stacked}
-use Rattle.expr_cost.specs.declared.Top.{Top}
-use Rattle.expr_cost.specs.declared.Pushed.{Pushed}
-use Rattle.expr_cost.specs.declared.Pushed.TheVariants.{At, Stopped}
+use Rattle.reader.specs.Inner.{join}
+use Rattle.walk.specs.Walked.{Applied}
 
 depth-size : (t : Tree) → depth t ≤ size t
 unfolding depth size
@@ -37,39 +27,30 @@ depth-size (OR x y) = omega (arith, depth-size x, depth-size y)
 depth-size (XO x y) = omega (arith, depth-size x, depth-size y)
 depth-size (NO x) = omega (arith, depth-size x)
 
-abbrev pub deepened : Kind → ℕ → ℕ → ℕ
-deepened k x y = deepest (operand_count k) x y
+-- "a leaf 1, an operator 1 more than its deepest operand"
+abbrev pub deepest : ℕ → ℕ → ℕ → ℕ
+deepest zero x y = 1
+deepest (suc zero) x y = x + 1
+deepest (suc (suc k)) x y = max x y + 1
 
-pub depth-folds : Folds depth deepened
-unfolding depth
-depth-folds (Constant c) x y a b p q = refl
-depth-folds (Flag i) x y a b p q = refl
-depth-folds And x y a b p q = omega (arith, p (lit≤ tt), q (lit≤ tt))
-depth-folds Or x y a b p q = omega (arith, p (lit≤ tt), q (lit≤ tt))
-depth-folds Xor x y a b p q = omega (arith, p (lit≤ tt), q (lit≤ tt))
-depth-folds Not x y a b p q = omega (arith, p (lit≤ tt))
+pub deepest-two : (k x y : ℕ) → 2 ≤ k → deepest k x y ≡ max x y + 1
+deepest-two zero x y h = absurd (omega arith)
+deepest-two (suc zero) x y h = absurd (omega arith)
+deepest-two (suc (suc k)) x y h = refl
 
-module _ {n : ℕ} {s : List ℕ} {entries count place deep : ℕ} {a : List ℕ} {ors : List Bool} {starts : List ℕ} {less : ℕ}
-    (w : Costed depth n s entries count place deep a ors starts less) {r : Found} (f : Stepped n s deep place count r) where
-  pub deepest-limit : (base : ℕ) → base + operand_count r.kind ≡ deep
-      → deepest (operand_count r.kind) (get_or a base 0) (get_or a (base + 1) 0) ≤ record_limit
-  deepest-limit base h =
-      let grows = walk-size w.walk f.stands f.more base h in
-      omega (arith, costed-fold w depth-folds 0 r.kind base h, depth-size (grown w.walk r.kind base).tree)
+module _ {n : ℕ} {a b : ℕ} {x y : Tree} where
+  pub depth-applied : (k : Kind) → Applied depth n k a b x y → deepest (operand_count k) a b ≡ depth (join k x y)
+  unfolding depth
+  depth-applied (Constant c) p = refl
+  depth-applied (Flag i) p = refl
+  depth-applied And p = omega (arith, p.first (lit≤ tt), p.second (lit≤ tt))
+  depth-applied Or p = omega (arith, p.first (lit≤ tt), p.second (lit≤ tt))
+  depth-applied Xor p = omega (arith, p.first (lit≤ tt), p.second (lit≤ tt))
+  depth-applied Not p = omega (arith, p.first (lit≤ tt))
 
-  module _ (b : List ℕ) (q : List Bool) {x : Pushed} (h : Stacked (operand_count r.kind) (or_of r.kind) a ors deep less b q x) where
-    told : {y : Pushed} → x ≡ y → Stacked (operand_count r.kind) (or_of r.kind) a ors deep less b q y
-    told e = subst (λ (z : Pushed). Stacked (operand_count r.kind) (or_of r.kind) a ors deep less b q z) e h
+  module _ (k : Kind) {c : ℕ} (e : c ≡ operand_count k) (p : Applied depth n k a b x y) where
+    pub depth-told : deepest c a b ≡ depth (join k x y)
+    depth-told = ap (λ (c : ℕ). deepest c a b) e ∙ depth-applied k p
 
-    pub depth_below : {t : Top} → x ≡ At t → t.base < entries
-    depth_below e = omega (arith, (told e).1)
-
-    pub depth-step : {t : Top} → x ≡ At t
-        → Costed depth n s entries (count + 1) r.next (t.base + 1) b q
-        (set starts t.base (begun r.kind place (get_or starts t.base 0))) t.saved
-    depth-step {t} e =
-        let k = told e in
-        rw (k.2, k.3, k.4) (costed-step w depth-folds 0 f t.base k.0 (depth_below e) _ refl _ refl)
-
-    pub depth-full : x ≡ Stopped → entries ≤ record_limit
-    depth-full e = omega (arith, told e)
+    pub depth-limit : deepest c a b ≤ record_limit
+    depth-limit = omega (arith, depth-told, depth-size (join k x y), p.few)

@@ -4,29 +4,31 @@
 --   costing-over, costing-within       == with too many flags; else by the machine
 --   costing-refused                    == a refusal of the machine is costing's
 --   costing-gives, costing-refuses     == what costing's two answers say of the tree
---   costing-end                        == what a walk answers at the end of the bytes
+--   costing-walked                     == costing is made of what the walk answers
 use mathlib.Core.Bool.{Bool}
 use mathlib.Core.List.{List}
 use mathlib.Core.Path.{◌≡◌, sym, ap, ◌∙◌}
 use Prim.Native.Nat.{ℕ, ◌-◌, ◌≤◌, ◌<◌}
+use lib.Dec.{ltb}
 use lib.ListN.{length, get_or}
 use borrow.Author.Tests.{lt-ltb, le-ltb}
 use Rattle.rules.specs.Calls.{Costs, parse, costing}
 use Rattle.rules.specs.Limits.{rule_flags, too_many_flags}
 use Rattle.rules.specs.Machine.{made}
-use Rattle.rules.specs.Outcome.{Outcome, gives, refuses, ◌then◌}
+use Rattle.rules.specs.Outcome.{Outcome, gives, refuses, refuse, ◌then◌}
 use Rattle.rules.specs.Tree.{Tree, cost, size, depth}
-use Rattle.laws.proofs.calls.Outcome.{gives_same, then-gives, then-refuses}
-use Rattle.reader.specs.Inner.{ended}
-use Rattle.reader.proofs.Costed.{Costed, costed-end}
+use Rattle.laws.proofs.calls.Outcome.{gives_same, refuse-then, then-then, then-gives, then-refuses}
+use Rattle.walk.specs.Walked.{walked}
+use Rattle.walk.specs.declared.Seen.{Seen}
+use Rattle.reader.proofs.Passed.{refused-first}
 
 abbrev pub costs : Tree → Costs
 costs t = record { cost = cost t; size = size t; depth = depth t }
 
 module _ (n : ℕ) (s : List ℕ) where
-  pub costing-over : rule_flags < n → costing n s ≡ refuses too_many_flags 0
+  pub costing-over : {k p : ℕ} → refuses k p ≡ refuse (ltb rule_flags n) too_many_flags 0 (gives n) → refuses k p ≡ costing n s
   unfolding costing parse
-  costing-over h = rw (lt-ltb rule_flags n h)
+  costing-over e = refused-first _ _ _ _ _ e ∙ sym (refuse-then (ltb rule_flags n) too_many_flags 0 (made n s) (λ t. gives (costs t)))
 
   pub costing-within : n ≤ rule_flags → costing n s ≡ made n s then (λ t. gives (costs t))
   unfolding costing parse
@@ -45,9 +47,10 @@ module _ (n : ℕ) (s : List ℕ) where
   unfolding costing
   costing-refuses k p e = then-refuses (parse n s) costs k p e
 
-pub costing-end : {n : ℕ} {s : List ℕ} {entries count place deep : ℕ} {a : List ℕ} {ors : List Bool} {starts : List ℕ} {less : ℕ}
-    → Costed depth n s entries count place deep a ors starts less
-    → n ≤ rule_flags → length s ≤ place
-    → {o : Outcome Costs} → o ≡ ended deep (length s) (gives (record { cost = count - less; size = count; depth = get_or a 0 0 })) → o ≡ costing n s
-costing-end {n} {s} w h l e =
-    e ∙ sym (costing-within n s h ∙ costed-end w l 0 (λ (d c k : ℕ). gives (record { cost = c; size = k; depth = d })))
+-- costing is made of what the walk answers
+pub costing-walked : (n : ℕ) (s : List ℕ) → n ≤ rule_flags → {o : Outcome (Seen ℕ)} → o ≡ walked depth n s
+    → o then (λ v. gives (record { cost = v.cost; size = v.size; depth = v.value })) ≡ costing n s
+unfolding walked
+costing-walked n s h e =
+    ap (λ (o : Outcome (Seen ℕ)). o then (λ v. gives (record { cost = v.cost; size = v.size; depth = v.value }))) e
+    ∙ sym (costing-within n s h ∙ then-then (made n s) _ _)

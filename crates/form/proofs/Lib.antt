@@ -4,3 +4,5 @@ pub mod WordOperations
 pub mod Literals
 pub mod Levels
 pub mod Injective
+pub mod Digits
+pub mod Remaining

@@ -16,6 +16,7 @@ pub fn read<R: Read>(input: &mut R, buffer: &mut [u8]) -> io::Result<usize>
     ensures bytes { IfOk result (λ n. Consumes (R.remaining input.old) (R.remaining input.new) (take n buffer.new)) }
     ensures end { IfOk result (λ n. n < length buffer.new → IsAtEnd (R.remaining input.new)) }
 {
+    // The count is the answer, and each read says how far it goes on, so no iterator goes over the buffer.
     let mut done = 0;
     while done < buffer.len() {
         let n = input.read(&mut buffer[done..])?;

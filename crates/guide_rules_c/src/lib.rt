@@ -1,5 +1,6 @@
-// The whole library by its names for C, each function with the clauses of the one in `guide_rules` that it calls. A static library has the functions
-// of one crate, so they stand here. `include/guide_rules.h` declares them.
+// The whole library for C: every call of the documents as one function, which `include/guide_rules.h` declares. A call returns the refusal's number,
+// 0 for none, and stores its answer at the front of a lent block of 64-bit numbers: the results, or after a refusal the place alone. A static library
+// has the functions of one crate, so they stand here, each with the clauses of the call in `c_tables`, `c_expressions` or `c_packages` that it makes.
 #![tactic(auto)]
 
 ghost use Rattle.std.specs.Prelude.{◌≡◌, length};
@@ -22,7 +23,7 @@ pub extern "C" fn rule_transform(
     ensures answer { Answers c.entries (Calls.transform flags table.now (length out.old))
         answer.old result answer.new }
 {
-    guide_rules::rule_transform(flags, table, out, answer)
+    c_tables::transform(flags, table, out, answer)
 }
 
 // The table of coefficients, one entry for each setting, at the front of `out`.
@@ -37,7 +38,7 @@ pub extern "C" fn rule_way_back(
     ensures answer { Answers c.entries (Calls.way_back flags coefficients.now (length out.old))
         answer.old result answer.new }
 {
-    guide_rules::rule_way_back(flags, coefficients, out, answer)
+    c_tables::way_back(flags, coefficients, out, answer)
 }
 
 // The monomials by count of ones, then mask, at the front of `out`.
@@ -53,7 +54,7 @@ pub extern "C" fn rule_listing(
     ensures answer { Answers c.listing (Calls.listing flags coefficients.now (length out.old))
         answer.old result answer.new }
 {
-    guide_rules::rule_listing(flags, coefficients, out, answer)
+    c_tables::listing(flags, coefficients, out, answer)
 }
 
 // The cost of the raw form.
@@ -62,7 +63,7 @@ pub extern "C" fn rule_raw_cost(flags: usize, coefficients: &[u64], answer: &mut
     ensures answer { Answers c.alone (Calls.raw_costing flags coefficients.now)
         answer.old result answer.new }
 {
-    guide_rules::rule_raw_cost(flags, coefficients, answer)
+    c_tables::raw_cost(flags, coefficients, answer)
 }
 
 // The expression of a table, at the front of `out`.
@@ -78,7 +79,7 @@ pub extern "C" fn rule_compile(
     ensures answer { Answers c.compilation (Calls.compile flags table.now (length out.old))
         answer.old result answer.new }
 {
-    guide_rules::rule_compile(flags, table, out, answer)
+    c_tables::compile(flags, table, out, answer)
 }
 
 // The record at a place, or the end.
@@ -87,7 +88,7 @@ pub extern "C" fn rule_read(flags: usize, bytes: &[u8], place: usize, answer: &m
     ensures answer { Answers c.reading (Calls.read flags bytes.now place)
         answer.old result answer.new }
 {
-    guide_rules::rule_read(flags, bytes, place, answer)
+    c_expressions::read(flags, bytes, place, answer)
 }
 
 // The value of an expression at one setting.
@@ -101,7 +102,7 @@ pub extern "C" fn rule_evaluate(
     ensures answer { Answers c.alone (Calls.evaluate flags bytes.now setting)
         answer.old result answer.new }
 {
-    guide_rules::rule_evaluate(flags, bytes, setting, answer)
+    c_expressions::evaluate(flags, bytes, setting, answer)
 }
 
 // The values of an expression for 64 stars, in one word.
@@ -115,7 +116,7 @@ pub extern "C" fn rule_evaluate_stars(
     ensures answer { Answers c.alone (Calls.evaluate_stars flags words.now bytes.now)
         answer.old result answer.new }
 {
-    guide_rules::rule_evaluate_stars(flags, words, bytes, answer)
+    c_expressions::evaluate_stars(flags, words, bytes, answer)
 }
 
 // The cost, size and depth of an expression.
@@ -124,7 +125,7 @@ pub extern "C" fn rule_cost(flags: usize, bytes: &[u8], answer: &mut [u64]) -> u
     ensures answer { Answers c.costs (Calls.costing flags bytes.now)
         answer.old result answer.new }
 {
-    guide_rules::rule_cost(flags, bytes, answer)
+    c_expressions::cost(flags, bytes, answer)
 }
 
 // Which of two expressions is the cheaper: 1 the first, 2 the second, 0 where the flag count or either is refused.
@@ -132,7 +133,7 @@ pub extern "C" fn rule_cost(flags: usize, bytes: &[u8], answer: &mut [u64]) -> u
 pub extern "C" fn rule_cheaper(flags: usize, first: &[u8], second: &[u8]) -> u64
     ensures { result ≡ c.cheaper flags first.now second.now }
 {
-    guide_rules::rule_cheaper(flags, first, second)
+    c_expressions::cheaper(flags, first, second)
 }
 
 // The examination of an expression against a table.
@@ -141,7 +142,7 @@ pub extern "C" fn rule_examine(flags: usize, table: &[u64], bytes: &[u8], answer
     ensures answer { Answers c.alone (Calls.examine flags table.now bytes.now)
         answer.old result answer.new }
 {
-    guide_rules::rule_examine(flags, table, bytes, answer)
+    c_expressions::examine(flags, table, bytes, answer)
 }
 
 // A rule of a package, at the front of `out`.
@@ -159,7 +160,7 @@ pub extern "C" fn package_write(
         (write_rule (record { flags = flags; table = table; expression = bytes.now }) (length out.old))
         answer.old result answer.new }
 {
-    guide_rules::package_write(flags, table, bytes, out, answer)
+    c_packages::write(flags, table, bytes, out, answer)
 }
 
 // The rule of a package at a place, or the end.
@@ -167,5 +168,5 @@ pub extern "C" fn package_write(
 pub extern "C" fn package_read(bytes: &[u8], place: usize, answer: &mut [u64]) -> u64
     ensures answer { Answers c.package_reading (read_rule bytes.now place) answer.old result answer.new }
 {
-    guide_rules::package_read(bytes, place, answer)
+    c_packages::read(bytes, place, answer)
 }

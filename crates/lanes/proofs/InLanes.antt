@@ -1,35 +1,47 @@
 -- Laws of lanes: the operations on whole words are those of the records in every lane at once. They rest on the laws of bits (bits, Bit) and of a
--- tree's values for 64 stars (laws, Stars) and, for the walk, on the laws of reader's Costed.
---   combined n ws k x y      == the lanes of a record from those of its operands, for a flag of any index
---   lanes-folds              == so the walk's stack of lanes follows the trees of the machine's stack
---   lanes_step               == one record more in the code's walk
---   seen-refused, seen_end   == the walk's answer where the bytes are refused, and at their end
+-- tree's values for 64 stars (laws, Stars).
+--   applied ws k x y     == the lanes of a record of kind k from those of its operands, of which it uses as many as it has
+--   lanes-applied        == they are those of its tree
+--   lanes-told           == so where the kind is told
+--   combined n ws k x y  == the lanes of a record from those of its operands, for a flag of any index
+--   lanes-folds          == so a record's lanes follow its tree, whatever the walk; no proof of a function needs it today
 use mathlib.Core.Bool.{Bool, true, false, not, ◌&&◌, ◌||◌}
 use mathlib.Core.List.{List}
-use mathlib.Core.Path.{◌≡◌, refl, sym, ap, ap₂, ◌∙◌}
-use Prim.Native.Nat.{ℕ, ◌+◌, ◌-◌, ◌^◌, ◌≤◌, ◌<◌}
-use native.Mathlib.Nat.{le_refl, lt_of_le_of_lt, sub-le}
+use mathlib.Core.Path.{◌≡◌, refl, sym, ap, ap₂, ◌∙◌, subst}
+use Prim.Native.Nat.{ℕ, ◌+◌, ◌-◌, ◌^◌, ◌<◌}
+use native.Mathlib.Nat.{lt_of_le_of_lt, sub-le}
 use lib.Bits.{bit_and, bit_or, bit_xor, and_le_l, or_lt, xor_lt}
 use lib.Dec.{lit<, lit≤}
-use lib.ListN.{length, get_or, set}
-use mir.Val.{bool_byte}
+use lib.ListN.{get_or}
 use Rattle.bits.specs.Bit.{◌⊕◌}
 use Rattle.bits.proofs.Bit.{bit-and, bit-or, bit-xor, bit_not, bit-zero}
-use Rattle.rules.specs.Machine.{made}
-use Rattle.rules.specs.Outcome.{Outcome, gives, refuses, ◌then◌}
-use Rattle.rules.specs.Record.{Kind, Constant, Flag, And, Or, Xor, Not, FlagBelow, Found, operand_count}
+use Rattle.rules.specs.Record.{Kind, Constant, Flag, And, Or, Xor, Not}
 use Rattle.rules.specs.Stars.{star_values}
-use Rattle.rules.specs.Tree.{Tree, CO, VA, AN, OR, XO, NO, value, cost}
+use Rattle.rules.specs.Tree.{Tree, CO, VA, AN, OR, XO, NO, value}
 use Rattle.laws.proofs.calls.Stars.{bit-star_setting, bit-star_values, star_values-lt, star_values-ext}
-use Rattle.expr.specs.Inner.{or_of}
-use Rattle.expr.proofs.ReadRecord.{read-index}
-use Rattle.reader.specs.Inner.{begun, ended}
-use Rattle.reader.proofs.Costed.{Costed, costed-step, costed-end}
-use Rattle.reader.proofs.Turn.{Stepped}
-use Rattle.reader.proofs.Walk.{Folds}
-use Rattle.lanes.specs.declared.Seen.{Seen}
-use Rattle.lanes.specs.Lanes.{seen}
-use Rattle.lanes.specs.Inner.{filled, applied, applied_at}
+use Rattle.expr.specs.Answers.{kind_of}
+use Rattle.expr.specs.declared.Kind as code
+use Rattle.reader.specs.Inner.{join}
+use Rattle.reader.proofs.Folds.{Folds}
+use Rattle.walk.specs.Walked.{Applied}
+use Rattle.lanes.specs.Inner.{filled}
+
+abbrev pub applied : List ℕ → Kind → ℕ → ℕ → ℕ
+applied ws (Constant b) x y = filled b
+applied ws (Flag i) x y = get_or ws i 0
+applied ws And x y = bit_and x y
+applied ws Or x y = bit_or x y
+applied ws Xor x y = bit_xor x y
+applied ws Not x y = (2 ^ 64 - 1) - x
+
+-- the word of a flag is a word
+abbrev pub Held : List ℕ → Kind → Type 0
+Held ws (Constant b) = Unit
+Held ws (Flag i) = get_or ws i 0 < 2 ^ 64
+Held ws And = Unit
+Held ws Or = Unit
+Held ws Xor = Unit
+Held ws Not = Unit
 
 module _ (n : ℕ) (ws : List ℕ) where
   -- ---- one record
@@ -68,8 +80,22 @@ module _ (n : ℕ) (ws : List ℕ) where
       star_values-ext n ws (NO x) _ (lt_of_le_of_lt (sub-le (2 ^ 64 - 1) (star_values n ws x)) (lit< tt))
       (λ j h. bit_not 64 (star_values n ws x) j (star_values-lt n ws x) h ∙ ap not (bit-star_values n ws x j h))
 
-  -- ---- the walk's step
+  pub lanes-applied : (k : Kind) → Held ws k → {a b : ℕ} {x y : Tree} → Applied (star_values n ws) n k a b x y
+      → applied ws k a b ≡ star_values n ws (join k x y)
+  lanes-applied (Constant b) h p = lanes-co b
+  lanes-applied (Flag i) h p = lanes-va i p.flag h
+  lanes-applied And h {x = x} {y} p = ap₂ bit_and (p.first (lit≤ tt)) (p.second (lit≤ tt)) ∙ lanes-an x y
+  lanes-applied Or h {x = x} {y} p = ap₂ bit_or (p.first (lit≤ tt)) (p.second (lit≤ tt)) ∙ lanes-or x y
+  lanes-applied Xor h {x = x} {y} p = ap₂ bit_xor (p.first (lit≤ tt)) (p.second (lit≤ tt)) ∙ lanes-xo x y
+  lanes-applied Not h {x = x} p = ap (λ (w : ℕ). (2 ^ 64 - 1) - w) (p.first (lit≤ tt)) ∙ lanes-no x
 
+  pub lanes-told : {kind k : code.Kind} → kind ≡ k → Held ws (kind_of k) → {a b : ℕ} {x y : Tree}
+      → Applied (star_values n ws) n (kind_of kind) a b x y → applied ws (kind_of k) a b ≡ star_values n ws (join (kind_of kind) x y)
+  lanes-told {kind} {k} e h {a} {b} {x} {y} p =
+      let q = subst (λ z. Applied (star_values n ws) n (kind_of z) a b x y) e p in
+      lanes-applied (kind_of k) h q ∙ ap (λ z. star_values n ws (join (kind_of z) x y)) (sym e)
+
+module _ (n : ℕ) (ws : List ℕ) where
   abbrev pub combined : Kind → ℕ → ℕ → ℕ
   combined (Constant b) x y = filled b
   combined (Flag i) x y = star_values n ws (VA i)
@@ -79,39 +105,9 @@ module _ (n : ℕ) (ws : List ℕ) where
   combined Not x y = (2 ^ 64 - 1) - x
 
   pub lanes-folds : Folds (star_values n ws) combined
-  lanes-folds (Constant b) x y a c p q = lanes-co b
+  lanes-folds (Constant b) x y a c p q = lanes-co n ws b
   lanes-folds (Flag i) x y a c p q = refl
-  lanes-folds And x y a c p q = ap₂ bit_and (p (lit≤ tt)) (q (lit≤ tt)) ∙ lanes-an x y
-  lanes-folds Or x y a c p q = ap₂ bit_or (p (lit≤ tt)) (q (lit≤ tt)) ∙ lanes-or x y
-  lanes-folds Xor x y a c p q = ap₂ bit_xor (p (lit≤ tt)) (q (lit≤ tt)) ∙ lanes-xo x y
-  lanes-folds Not x y a c p q = ap (λ (w : ℕ). (2 ^ 64 - 1) - w) (p (lit≤ tt)) ∙ lanes-no x
-
-  -- the code's step, for a flag below n
-  applied-combined : ((i : ℕ) → get_or ws i 0 < 2 ^ 64) → (k : Kind) → FlagBelow n k → (x y : ℕ) → applied ws k x y ≡ combined k x y
-  applied-combined small (Constant b) h x y = refl
-  applied-combined small (Flag i) h x y = lanes-va i h (small i)
-  applied-combined small And h x y = refl
-  applied-combined small Or h x y = refl
-  applied-combined small Xor h x y = refl
-  applied-combined small Not h x y = refl
-
-  -- ---- the walk
-
-  module _ {s : List ℕ} {entries count place depth less : ℕ} {a : List ℕ} {ors : List Bool} {starts : List ℕ}
-      (w : Costed (star_values n ws) n s entries count place depth a ors starts less) where
-    pub lanes_step : ((i : ℕ) → get_or ws i 0 < 2 ^ 64) → {r : Found} → Stepped n s depth place count r
-        → (base : ℕ) → base + operand_count r.kind ≡ depth → base < entries
-        → (v : ℕ) → v ≡ applied_at ws r.kind a base → (o : Bool) → o ≡ or_of r.kind
-        → Costed (star_values n ws) n s entries (count + 1) r.next (base + 1) (set a base v) (set ors base o)
-        (set starts base (begun r.kind place (get_or starts base 0))) (less + bool_byte (o && get_or ors base false))
-    lanes_step small {r} f base h below v is =
-        let same = applied-combined small r.kind (read-index f.stands n (le_refl n)) (get_or a base 0) (get_or a (base + 1) 0) in
-        costed-step w lanes-folds 0 f base h below v (is ∙ same)
-
-    pub seen_end : length s ≤ place → seen n s ws ≡ ended depth (length s) (gives (record { values = get_or a 0 0; cost = count - less }))
-    unfolding seen
-    seen_end h = costed-end w h 0 {B = Seen} (λ v c z. gives (record { values = v; cost = c }))
-
-  pub seen-refused : (s : List ℕ) {k p : ℕ} → made n s ≡ refuses k p → seen n s ws ≡ refuses k p
-  unfolding seen
-  seen-refused s e = ap (λ (o : Outcome Tree). o then (λ t. gives (record { values = star_values n ws t; cost = cost t }))) e
+  lanes-folds And x y a c p q = ap₂ bit_and (p (lit≤ tt)) (q (lit≤ tt)) ∙ lanes-an n ws x y
+  lanes-folds Or x y a c p q = ap₂ bit_or (p (lit≤ tt)) (q (lit≤ tt)) ∙ lanes-or n ws x y
+  lanes-folds Xor x y a c p q = ap₂ bit_xor (p (lit≤ tt)) (q (lit≤ tt)) ∙ lanes-xo n ws x y
+  lanes-folds Not x y a c p q = ap (λ (w : ℕ). (2 ^ 64 - 1) - w) (p (lit≤ tt)) ∙ lanes-no n ws x

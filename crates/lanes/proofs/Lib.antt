@@ -1,2 +1,2 @@
 pub mod InLanes
-pub mod Injective
+pub mod WalkedLanes

@@ -1,6 +1,6 @@
 -- The masks below 64 that have d ones, as a word. The seven constants are right by one computed test over the 64 masks of each. It rests on the laws
 -- of words (bits, Word).
---   layers, layer_row, layer-other   == the constant words, by degree; there is no mask of another degree
+--   layers, layer_row, layer-none    == the constant words, by degree; there is no mask of another degree
 --   bit-layer                        == the bits of a layer
 use mathlib.Core.Bool.{true, not}
 use mathlib.Core.List.{List, [], ◌∷◌}
@@ -35,21 +35,12 @@ layer_row d h =
 small : (m : ℕ) → mem m (upto 64) ≡ true → m < 64
 small m h = ltb-true m 64 (sym (mem-upto 64 m) ∙ h)
 
-layer-none : (d : ℕ) → 7 ≤ d → layer d ≡ 0
+pub layer-none : (d : ℕ) → 7 ≤ d → layer d ≡ 0
 unfolding layer word sum
 layer-none d h =
     ap word
     (keep-none (λ m. eqb (ones m) d) (upto 64)
     (mem-all _ (upto 64) (λ m k. ap not (ne_eqb (ones m) d (λ e. omega (arith, ones-le 6 m (small m k)))))))
-
-from-four : (d : ℕ) → (d ≡ 0 → ⊥) → (d ≡ 1 → ⊥) → (d ≡ 2 → ⊥) → (d ≡ 3 → ⊥) → 4 ≤ d
-from-four d h₀ h₁ h₂ h₃ = omega arith
-
-from-seven : (d : ℕ) → 4 ≤ d → (d ≡ 4 → ⊥) → (d ≡ 5 → ⊥) → (d ≡ 6 → ⊥) → 7 ≤ d
-from-seven d l h₄ h₅ h₆ = omega arith
-
-pub layer-other : (d : ℕ) → (d ≡ 0 → ⊥) → (d ≡ 1 → ⊥) → (d ≡ 2 → ⊥) → (d ≡ 3 → ⊥) → (d ≡ 4 → ⊥) → (d ≡ 5 → ⊥) → (d ≡ 6 → ⊥) → layer d ≡ 0
-layer-other d h₀ h₁ h₂ h₃ h₄ h₅ h₆ = layer-none d (from-seven d (from-four d h₀ h₁ h₂ h₃) h₄ h₅ h₆)
 
 pub bit-layer : (d m : ℕ) → m < 64 → bit (layer d) m ≡ eqb (ones m) d
 unfolding layer

@@ -1,3 +1,4 @@
 pub mod Entries
 pub mod Layer
 pub mod Degrees
+pub mod Yielded

@@ -1,12 +1,13 @@
-// Constant words about masks of six flags, and the masks of a word listed. A word is a set of masks: bit m stands for the mask m. It rests on the
-// definitions of `rules`.
+// Constant words about masks of six flags, and the masks of a word, walked or listed. A word is a set of masks: bit m stands for the mask m. It rests
+// on the definitions of `rules`.
 #![tactic(auto)]
 
-ghost use Rattle.std.specs.Prelude.{map, ◌≡◌, ◌+◌, ◌<◌, ◌≤◌};
+ghost use Rattle.std.specs.Prelude.{Bool, ℕ, map, ◌≡◌, ◌+◌, ◌<◌, ◌≤◌};
 ghost use Rattle.std.specs.Int.Count;
-ghost use Rattle.bits.specs.Range.{upto};
+ghost use Rattle.std.specs.Iterator.{YieldsFirst, item_count};
+ghost use Rattle.bits.specs.Range.{keep, upto};
 ghost use Rattle.bits.specs.Stored.{Room, Stored};
-ghost use Rattle.bits.specs.Word.{places};
+ghost use Rattle.bits.specs.Word.{places, word};
 ghost use Rattle.mask_words.specs.inner.Degree.{layer};
 ghost use Rattle.mask_words.specs.Lookup.{mask_count, subset_word, superset_word, flag_word, lookup_words};
 
@@ -14,7 +15,11 @@ ghost use Rattle.mask_words.specs.Lookup.{mask_count, subset_word, superset_word
 pub const MASK_COUNT: usize = 64;
 
 // The words that are looked up by a mask. A public call makes them once and lends them down.
-pub type Lookup = [u64; 128];
+#[derive(Clone, Copy)]
+pub struct Lookup {
+    words: [u64; 128],
+    ghost right: { words ≡ lookup_words },
+}
 
 // First, for each mask, its nonempty subsets; then, for each mask, the masks that contain it.
 const LOOKUP: [u64; 128] = [
@@ -158,29 +163,43 @@ const FLAG_WORDS: [u64; 6] = [
     0xffff_ffff_0000_0000,
 ];
 
-pub fn lookup() -> Lookup
-    ensures { result ≡ lookup_words }
-{
-    LOOKUP
-}
+// The masks that have no ones, one, and so on.
+const LAYERS: [u64; 7] = [
+    0x0000_0000_0000_0001,
+    0x0000_0001_0001_0116,
+    0x0001_0116_0116_1668,
+    0x0116_1668_1668_6880,
+    0x1668_6880_6880_8000,
+    0x6880_8000_8000_0000,
+    0x8000_0000_0000_0000,
+];
 
-// The nonempty subsets of a mask.
-pub fn subsets(mask: usize, lookup: &Lookup) -> u64
-    requires { (lookup.now ≡ lookup_words) × (mask < mask_count) }
-    ensures { result ≡ subset_word mask }
-{
-    lookup[mask]
-}
+impl Lookup {
+    pub fn new() -> Lookup {
+        Lookup { words: LOOKUP }
+    }
 
-// The masks that contain a mask.
-pub fn supersets(mask: usize, lookup: &Lookup) -> u64
-    requires { (lookup.now ≡ lookup_words) × (mask < mask_count) }
-    ensures { result ≡ superset_word mask }
-{
-    lookup[64 + mask]
+    // The nonempty subsets of a mask.
+    #[inline]
+    pub fn subsets(&self, mask: usize) -> u64
+        requires { mask < mask_count }
+        ensures { result ≡ subset_word mask }
+    {
+        self.words[mask]
+    }
+
+    // The masks that contain a mask.
+    #[inline]
+    pub fn supersets(&self, mask: usize) -> u64
+        requires { mask < mask_count }
+        ensures { result ≡ superset_word mask }
+    {
+        self.words[64 + mask]
+    }
 }
 
 // The masks that have a flag, for each of the six.
+#[inline]
 pub fn flag_words() -> [u64; 6]
     ensures { result ≡ map flag_word (upto 6) }
 {
@@ -188,33 +207,76 @@ pub fn flag_words() -> [u64; 6]
 }
 
 // The masks that have that many ones.
+#[inline]
 pub fn with_ones(count: usize) -> u64
     ensures { result ≡ layer count }
 {
-    match count {
-        0 => 0x0000_0000_0000_0001,
-        1 => 0x0000_0001_0001_0116,
-        2 => 0x0001_0116_0116_1668,
-        3 => 0x0116_1668_1668_6880,
-        4 => 0x1668_6880_6880_8000,
-        5 => 0x6880_8000_8000_0000,
-        6 => 0x8000_0000_0000_0000,
-        _ => 0,
+    if count < LAYERS.len() {
+        return LAYERS[count];
     }
+    0
 }
 
-// How many ones a word has.
-pub fn ones(word: u64) -> usize
-    ensures { (result ≡ Count.ones word) × (result ≤ 64) }
+// The word of the places below `count` at which a test holds.
+#[inline]
+pub fn chosen<F: Fn(usize) -> bool>(count: usize, test: F) -> u64
+    requires { (count ≤ 64) × ((i : ℕ) → i < count → F.pre test i) }
+    ensures { (p : ℕ → Bool) → ((i : ℕ) (b : Bool) → i < count → F.post test i b → b ≡ p i) → result ≡ word (keep p (upto count)) }
 {
-    u64::count_ones(word) as usize
+    let mut word = 0;
+    for place in 0..count {
+        word |= u64::from(test(place)) << place;
+    }
+    word
 }
 
 // How many flags a mask has.
+#[inline]
 pub fn flag_count(mask: usize) -> usize
     ensures { (result ≡ Count.ones mask) × (result ≤ 64) }
 {
-    ones(mask as u64)
+    mask.count_ones() as usize
+}
+
+// The places of a word's ones, ascending: the masks of a set of masks, or the flags of a mask.
+#[derive(Clone, Copy, Drop)]
+pub struct Ones {
+    left: u64,
+}
+
+impl Ones {
+    #[inline]
+    pub fn of(word: u64) -> Ones
+        ensures { result ≡ record { left = word } }
+    {
+        Ones { left: word }
+    }
+
+    // The ones that are left.
+    #[inline]
+    pub fn word(&self) -> u64
+        ensures { result ≡ self.now.left }
+    {
+        self.left
+    }
+}
+
+impl Iterator for Ones {
+    type Item = usize;
+
+    ghost next_gives = { YieldsFirst (λ s. places 64 s.left) };
+
+    ghost remaining = { item_count (λ s. places 64 s.left) };
+
+    #[inline]
+    fn next(&mut self) -> Option<usize> {
+        if self.left == 0 {
+            return None;
+        }
+        let place = self.left.trailing_zeros() as usize;
+        self.left &= self.left - 1;
+        Some(place)
+    }
 }
 
 // The masks of a word, counted from `base`, from place `at` of `out` on; the place after them.
@@ -222,13 +284,10 @@ pub fn list(word: u64, base: usize, out: &mut [u32], at: usize) -> usize
     requires { (base ≤ 65536) × Room (places 64 word) at out.old }
     ensures { Stored (map (λ j. base + j) (places 64 word)) at result out.old out.new }
 {
-    let mut left = word;
     let mut next = at;
-    while left != 0 {
-        let place = u64::trailing_zeros(left) as usize;
+    for place in Ones::of(word) {
         out[next] = (base + place) as u32;
-        next = next + 1;
-        left = left & (left - 1);
+        next += 1;
     }
     next
 }

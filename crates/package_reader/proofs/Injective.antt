@@ -1,23 +1,20 @@
 -- Equal meanings have equal answers, so the reader's equation fixes what it answers. Each answer is told from its meaning.
 --   rule_reading_of-injective  == the reader's answers
-use mathlib.Core.Option.{Option, none, some}
-use mathlib.Core.Path.{◌≡◌, refl}
-use Rattle.bits.proofs.Injective.{told-apart}
-use Rattle.rules.specs.Outcome.{Outcome, gives, refuses}
-use Rattle.rule_package.specs.Calls.{RuleAt}
-use Rattle.package_reader.specs.Answers.{rule_reading_of}
-use Rattle.package_reader.specs.declared.RuleReading.{RuleReading}
-use Rattle.package_reader.specs.declared.RuleReading.TheVariants.{Found, End, Refused}
+use Rattle.std.specs.Prelude.{◌≡◌, Option, None, Some, Result, refl}
+use Rattle.std.proofs.Math.Option as math
+use Rattle.rules.specs.declared.refusal.Refusal.{Refusal}
+use Rattle.rules.proofs.Injective.{outcome_of-injective}
+use Rattle.rule_package.specs.Calls as paper
+use Rattle.package_reader.specs.Answers.{found_of, rule_reading_of}
+use Rattle.package_reader.specs.declared.RuleAt.{RuleAt}
 
-abbrev reading : Outcome (Option RuleAt) → RuleReading
-reading (gives (some r)) = Found record { flags = r.flags; table = r.table; start = r.start; length = r.length; next = r.next }
-reading (gives none) = End
-reading (refuses k p) = Refused record { number = k; place = p }
+abbrev found : math.Option paper.RuleAt → Option RuleAt
+found (math.some r) = Some (record { flags = r.flags; table = r.table; start = r.start; length = r.length; next = r.next })
+found math.none = None
 
-reading-of : (r : RuleReading) → reading (rule_reading_of r) ≡ r
-reading-of (Found r) = refl
-reading-of End = refl
-reading-of (Refused r) = refl
+found-of : (f : Option RuleAt) → found (found_of f) ≡ f
+found-of (Some r) = refl
+found-of None = refl
 
-pub rule_reading_of-injective : (r q : RuleReading) → rule_reading_of r ≡ rule_reading_of q → r ≡ q
-rule_reading_of-injective = told-apart rule_reading_of reading reading-of
+pub rule_reading_of-injective : (r q : Result (Option RuleAt) Refusal) → rule_reading_of r ≡ rule_reading_of q → r ≡ q
+rule_reading_of-injective = outcome_of-injective found_of found found-of

@@ -1,37 +1,29 @@
--- The writer row by row, and the bytes of a rule as its header with the expression behind it. It rests on the definitions of rule_package and on
--- what a buffer holds after a refusal (laws, Outcome).
---   told-refusal                 == both promises of the writer where it refuses
---   write-flags, write-stray     == rows 1 and 17
+-- The writer past row 1, and the bytes of a rule as its header with the expression behind it. It rests on the definitions of rule_package and on
+-- runs of stores (bits, Stores).
+--   write-stray                  == row 17
 --   write-examined               == past them, the examination and then the rule's bytes
---   rule_bytes-header             == a rule's bytes are its header and its expression
+--   rule_bytes-header            == a rule's bytes are its header and its expression
+--   stored-parts                 == a buffer after one copy at its front and one behind it
 use mathlib.Core.Bool.{true, false}
-use mathlib.Core.List.{List, ◌++◌}
-use mathlib.Core.Path.{◌≡◌, refl, ap, ◌∙◌}
-use Prim.Native.Nat.{ℕ, ◌≤◌, ◌<◌}
-use lib.ListN.{length}
+use mathlib.Core.List.{List, ◌++◌, append_assoc}
+use mathlib.Core.Path.{◌≡◌, refl, sym, ap, ◌∙◌}
+use Prim.Native.Nat.{ℕ, ◌+◌, ◌≤◌, ◌<◌}
+use native.Mathlib.Nat.{zero-add}
+use native.Mathlib.Omega.{arith}
+use lib.ListN.{length, take, drop, length-append, length-drop}
+use lib.Seq.{sets, sets-eq, drop-drop}
 use borrow.Author.Tests.{lt-ltb, le-ltb}
 use Rattle.bits.specs.LowFirst.{low_bytes}
+use Rattle.bits.proofs.Stores.{sets-front, sets-append}
 use Rattle.rules.specs.Ascii.{ascii}
 use Rattle.rules.specs.Calls.{fill}
 use Rattle.rules.specs.Limits.{package_flags, too_many_flags, stray_table_bit}
-use Rattle.rules.specs.Outcome.{Outcome, refuses, ◌then◌, left}
-use Rattle.laws.proofs.calls.Outcome.{left-refuses}
+use Rattle.rules.specs.Outcome.{refuses, ◌then◌}
 use Rattle.rule_package.specs.Calls.{write_rule}
 use Rattle.rule_package.specs.Rule.{Rule, rule_bytes, stray_bit, examine_rule}
-use Rattle.package_writer.specs.Answers.{writing_of}
 use Rattle.package_writer.specs.Inner.{header}
-use Rattle.package_writer.specs.declared.Writing.{Writing}
-use Rattle.package_writer.specs.declared.Writing.TheVariants.{Refused}
-
-pub told-refusal : (out : List ℕ) (o : Outcome (List ℕ)) (w : Writing) (k p : ℕ) → w ≡ Refused (record { number = k; place = p }) → o ≡ refuses k p
-    → (writing_of out w ≡ o) × (out ≡ left out o)
-told-refusal out o w k p a e = let told = left-refuses out o k p e in (ap (writing_of out) a ∙ told.0, told.1)
 
 module _ (r : Rule) (room : ℕ) where
-  pub write-flags : package_flags < r.flags → write_rule r room ≡ refuses too_many_flags 0
-  unfolding write_rule
-  write-flags h = rw (lt-ltb package_flags r.flags h)
-
   module _ (few : r.flags ≤ package_flags) where
     pub write-stray : stray_bit r.flags r.table ≡ true → write_rule r room ≡ refuses stray_table_bit 0
     unfolding write_rule
@@ -45,3 +37,13 @@ module _ (r : Rule) where
   pub rule_bytes-header : rule_bytes r ≡ header r.flags (length r.expression) r.table ++ r.expression
   unfolding rule_bytes header ascii low_bytes
   rule_bytes-header = refl
+
+pub stored-parts : (out a b : List ℕ) (k : ℕ) → length a + length b ≤ length out → k ≡ length b
+    → (let l = a ++ drop (length a) out in take (length a) l ++ (b ++ drop k (drop (length a) l)) ≡ sets out 0 (a ++ b))
+stored-parts out a b k h e =
+    let l = a ++ drop (length a) out in
+    let size : length l ≡ length out = omega (arith, length-append a (drop (length a) out), length-drop (length a) out) in
+    ap (λ (m : List ℕ). take (length a) l ++ (b ++ m)) (ap (λ (j : ℕ). drop j (drop (length a) l)) e ∙ drop-drop (length b) (length a) l)
+    ∙ sym (sets-eq b l (length a) (omega arith) ∙ append_assoc (take (length a) l) b _) ∙ ap (λ (m : List ℕ). sets m (length a) b) (sym
+    (sets-front a out (omega arith)))
+    ∙ ap (λ (j : ℕ). sets (sets out 0 a) j b) (sym (zero-add (length a))) ∙ sets-append a b out 0

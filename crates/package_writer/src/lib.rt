@@ -2,66 +2,64 @@
 // that the examiner accepts. It rests on `rule_package` for what a rule's bytes are, and on `examiner`.
 #![tactic(auto)]
 
-mod bytes;
-
 ghost use Rattle.std.specs.Prelude.{◌≡◌, ◌≤◌, length};
 ghost use Rattle.rules.specs.Calls.{fill};
-ghost use Rattle.rules.specs.Limits.{package_flags, byte_limit};
+ghost use Rattle.rules.specs.Limits.{byte_limit};
 ghost use Rattle.rules.specs.Outcome.{left};
 ghost use Rattle.rule_package.specs.Calls.{write_rule};
 ghost use Rattle.rule_package.specs.Rule.{rule_bytes};
 ghost use Rattle.package_writer.specs.Answers.{writing_of};
+ghost use Rattle.package_writer.specs.Inner.{header};
 
-use examiner::Examination;
-use rule_package::HEADER_LENGTH;
-use rules::{PACKAGE_FLAGS, Refusal, SHORT_OUTPUT, STRAY_TABLE_BIT, TOO_MANY_FLAGS};
-
-// The length of the rule that was written, or the refusal.
-#[derive(Clone, Copy)]
-pub enum Writing {
-    Written(usize),
-    Refused(Refusal),
-}
-
-fn refused(number: u64, place: usize) -> Writing
-    ensures { result ≡ Writing.Refused (record { number = number; place = place }) }
-{
-    Writing::Refused(Refusal { number, place })
-}
+use rule_package::{HEADER_LENGTH, PackageFlags};
+use rules::{Reason, Refusal};
 
 // The rule, at the front of `out`.
-pub fn write_rule(flags: usize, table: u64, expression: &[u8], out: &mut [u8]) -> Writing
+pub fn write_rule(
+    flags: usize,
+    table: u64,
+    expression: &[u8],
+    out: &mut [u8],
+) -> Result<usize, Refusal>
     ensures answer { writing_of out.new result
         ≡ write_rule (record { flags = flags; table = table; expression = expression.now }) (length out.old) }
     ensures lent { out.new ≡ left out.old
         (write_rule (record { flags = flags; table = table; expression = expression.now }) (length out.old)) }
 {
-    if PACKAGE_FLAGS < flags {
-        return refused(TOO_MANY_FLAGS, 0);
-    }
+    let flags = PackageFlags::try_from(flags)?;
     if rule_package::is_stray(flags, table) {
-        return refused(STRAY_TABLE_BIT, 0);
+        return Err(Reason::StrayTableBit.at(0));
     }
-    let examination = examiner::examine_for_writer(flags, table, expression);
-    match examination {
-        Examination::Accepted(_) => put(flags, table, expression, out),
-        Examination::Refused(refusal) => Writing::Refused(refusal),
-    }
+    examiner::examine_word(flags, table, expression)?;
+    put(flags, table, expression, out)
 }
 
 // A rule that the examiner accepts, if there is room for it.
-fn put(flags: usize, table: u64, expression: &[u8], out: &mut [u8]) -> Writing
-    requires { (flags ≤ package_flags) × (length expression.now ≤ byte_limit) }
+fn put(flags: PackageFlags, table: u64, expression: &[u8], out: &mut [u8]) -> Result<usize, Refusal>
+    requires { length expression.now ≤ byte_limit }
     ensures answer { writing_of out.new result
-        ≡ fill (length out.old) (rule_bytes (record { flags = flags; table = table; expression = expression.now })) }
+        ≡ fill (length out.old) (rule_bytes (record { flags = flags.count; table = table; expression = expression.now })) }
     ensures lent { out.new ≡ left out.old
-        (fill (length out.old) (rule_bytes (record { flags = flags; table = table; expression = expression.now }))) }
+        (fill (length out.old) (rule_bytes (record { flags = flags.count; table = table; expression = expression.now }))) }
 {
     let length = HEADER_LENGTH + expression.len();
     if out.len() < length {
-        return refused(SHORT_OUTPUT, length);
+        return Err(Reason::ShortOutput.at(length));
     }
-    bytes::put_header(flags as u8, expression.len() as u64, table, out);
-    bytes::put_all(expression, out, HEADER_LENGTH);
-    Writing::Written(length)
+    out[..HEADER_LENGTH].copy_from_slice(&header(
+        flags.count as u8,
+        expression.len() as u16,
+        table,
+    ));
+    out[HEADER_LENGTH..length].copy_from_slice(expression);
+    Ok(length)
+}
+
+// The mark, the flag count, the count of the expression's bytes and the table word: 2 + 1 + 2 + 8 bytes.
+fn header(flags: u8, count: u16, table: u64) -> [u8; HEADER_LENGTH]
+    ensures { result ≡ header flags count table }
+{
+    let [low, high] = count.to_le_bytes();
+    let [a, b, c, d, e, f, g, h] = table.to_le_bytes();
+    [b'R', b'U', flags, low, high, a, b, c, d, e, f, g, h]
 }

@@ -3,6 +3,7 @@
 --   word_count-full  == six flags or more
 --   Room n, room    == both cases
 --   word_count-le    == there are no more words than settings
+--   few-settings     == fewer than six flags
 use mathlib.Core.Bool.{Bool, true, false}
 use mathlib.Core.Logic.{◌⊎◌, inl, inr}
 use mathlib.Core.Path.{◌≡◌, refl, ap, ◌∙◌}
@@ -37,3 +38,6 @@ room n = go (ltb n 6) refl
 pub word_count-le : (n : ℕ) → word_count n ≤ 2 ^ n
 unfolding word_count
 word_count-le n = let p = pow_pos n in omega arith
+
+pub few-settings : (n : ℕ) → n < 6 → 2 ^ n ≤ 32
+few-settings n h = pow_mono {j = 5} (omega arith)

@@ -2,48 +2,57 @@
 // It rests on the definitions of `rules`.
 #![tactic(auto)]
 
+pub mod lent;
+
 ghost use Rattle.std.specs.Prelude.{◌≡◌, ◌/◌, ◌%◌, ◌<◌, ◌≤◌, ◌^◌, length};
 ghost use Rattle.rules.specs.Limits.{form_flags};
 ghost use Rattle.bits.specs.Bit.{digit};
 ghost use Rattle.rules.specs.Coefficient.{word_count, packed, stray};
 ghost use Rattle.packed_anf.specs.Raised.{Raised};
 
+use rules::flags::Flags;
+
 // How many settings that many flags have.
-pub fn setting_count(flags: usize) -> usize
-    requires { flags ≤ form_flags }
-    ensures { result ≡ 2 ^ flags }
+#[inline]
+pub fn setting_count<const LIMIT: usize>(flags: Flags<LIMIT>) -> usize
+    requires { LIMIT ≤ form_flags }
+    ensures { result ≡ 2 ^ flags.entry.count }
 {
-    1 << flags
+    1 << flags.count
 }
 
 // How many words the coefficients of that many flags take: 2^n/64, rounded up.
-pub fn word_count(flags: usize) -> usize
-    requires { flags ≤ form_flags }
-    ensures { result ≡ word_count flags }
+#[inline]
+pub fn word_count<const LIMIT: usize>(flags: Flags<LIMIT>) -> usize
+    requires { LIMIT ≤ form_flags }
+    ensures { result ≡ word_count flags.entry.count }
 {
     word_index(setting_count(flags) + 63)
 }
 
 // Whether a coefficient at 2 ^ flags or above is 1 in the words of that many flags. Only with fewer than six flags is there room for one.
-pub fn is_stray(flags: usize, words: &[u64]) -> bool
-    requires { (flags ≤ form_flags) × (word_count flags ≤ length words.now) }
-    ensures { result ≡ stray flags words.now }
+#[inline]
+pub fn is_stray<const LIMIT: usize>(flags: Flags<LIMIT>, words: &[u64]) -> bool
+    requires { (LIMIT ≤ form_flags) × (word_count flags.count ≤ length words.now) }
+    ensures { result ≡ stray flags.entry.count words.now }
 {
-    if 5 < flags {
+    if 5 < flags.count {
         return false;
     }
     low_bits(flags, words[0]) < words[0]
 }
 
 // The first word without coefficients at 2 ^ flags and above.
-pub fn low_bits(flags: usize, first: u64) -> u64
-    requires { flags < 6 }
-    ensures { result ≡ first % 2 ^ (2 ^ flags) }
+#[inline]
+pub fn low_bits<const LIMIT: usize>(flags: Flags<LIMIT>, first: u64) -> u64
+    requires { (LIMIT ≤ form_flags) × (flags.count < 6) }
+    ensures { result ≡ first % 2 ^ (2 ^ flags.entry.count) }
 {
     first & ((1 << setting_count(flags)) - 1)
 }
 
 // Coefficient m, as 0 or 1.
+#[inline]
 pub fn get(words: &[u64], m: usize) -> u64
     requires { m / 64 < length words.now }
     ensures { result ≡ digit (packed words.now m) }
@@ -52,16 +61,17 @@ pub fn get(words: &[u64], m: usize) -> u64
 }
 
 // Coefficient m becomes 1.
+#[inline]
 pub fn set(words: &mut [u64], m: usize)
     requires { m / 64 < length words.old }
     ensures { Raised words.old m words.new }
 {
-    let i = word_index(m);
-    words[i] = words[i] | (1 << bit_index(m));
+    words[word_index(m)] |= 1 << bit_index(m);
 }
 
 // Which word holds coefficient m. Document 02, request 2: "a coefficient's place comes from its number by 64", and the code that gets or sets it
 // "shall hold no division and no remainder".
+#[inline]
 fn word_index(m: usize) -> usize
     ensures { result ≡ m / 64 }
 {
@@ -69,6 +79,7 @@ fn word_index(m: usize) -> usize
 }
 
 // Which bit of that word it is.
+#[inline]
 fn bit_index(m: usize) -> usize
     ensures { result ≡ m % 64 }
 {

@@ -1,9 +1,8 @@
 // A page written to a writer, for the programs whose output is one. It rests on `text` and on std's writers.
 #![tactic(auto)]
 
-ghost use Rattle.std.specs.Prelude.{◌≡◌, ◌≤◌, OnOk, length, take};
+ghost use Rattle.std.specs.Prelude.{OnOk};
 ghost use Rattle.std.specs.Io.KnownBytes.{Appends};
-ghost use Rattle.text.specs.Page.{page_bytes};
 
 use std::io;
 use std::io::Write;
@@ -11,10 +10,7 @@ use text::Page;
 
 // The page's text goes to `output`.
 pub fn write<W: Write>(output: &mut W, page: Page) -> io::Result<()>
-    requires { (page.count ≤ page_bytes) × (length page.bytes ≡ page_bytes) }
-    ensures { OnOk result (Appends (W.contents output.old) (W.contents output.new) (take page.count page.bytes)) }
+    ensures { OnOk result (Appends (W.contents output.old) (W.contents output.new) page.bytes) }
 {
-    let bytes = page.bytes;
-    let count = page.count;
-    output.write_all(&bytes[..count])
+    output.write_all(page.as_str().as_bytes())
 }

@@ -1,5 +1,3 @@
-pub mod Put
-pub mod Writes
 pub mod Chains
-pub mod Links
-pub mod Terms
+pub mod Fold
+pub mod Put

@@ -1,17 +1,22 @@
--- Runs of bytes written at a cursor, one after another: what is written, and the room that is left for the next. It rests on the laws of runs
--- in a buffer (bits, Stored).
+-- Runs of bytes written into a lent buffer at a cursor, one after another: what is written, and the room that is left for the next. No proof of a
+-- function needs these laws today: the code keeps what it writes by value, where `followed` of specs/Written says the same, and a buffer that holds
+-- what was written before holds it so (`put-followed`). They rest on the laws of runs in a buffer (bits, Stored).
 --   put-append                   == a run and another from where it ends are one run
 --   put-length                   == the buffer keeps its length
 --   put-eq, room-eq              == the same run, and the same room, under other names of the bytes and of their count
+--   put-followed                 == where the code has written a run behind what stood before, a buffer that holds the one holds the other
 --   room-first, room_next        == room for two runs is room for the first, and after it for the second; a run has no more records than bytes
 use mathlib.Core.List.{List, ◌++◌}
-use mathlib.Core.Path.{◌≡◌, subst, subst₂}
+use mathlib.Core.Path.{◌≡◌, refl, sym, ap, subst, subst₂, ◌∙◌}
 use Prim.Native.Nat.{ℕ, ◌+◌, ◌≤◌}
+use native.Mathlib.Nat.{zero-add}
 use native.Mathlib.Omega.{arith}
 use lib.ListN.{length, length-append}
+use lib.Seq.{sets, length-sets}
+use Rattle.bits.proofs.Stores.{sets-append}
 use Rattle.bits.proofs.Stored.{stored-append, stored-length}
-use Rattle.postfix.specs.Written.{Room, Put}
-use Rattle.postfix.specs.declared.Cursor.{Cursor}
+use Rattle.postfix.specs.Written.{Written, followed}
+use Rattle.postfix.specs.Put.{Cursor, Room, Put}
 
 module _ {l m : List ℕ} {k j : ℕ} {a b c : Cursor} {out mid after : List ℕ} where
   pub put-append : Put l k a b out mid → Put m j b c mid after → Put (l ++ m) (k + j) a c out after
@@ -36,3 +41,18 @@ module _ {l : List ℕ} {a : Cursor} {out : List ℕ} where
 
   pub room-eq : {m : List ℕ} → l ≡ m → Room l a out → Room m a out
   room-eq e h = subst (λ (s : List ℕ). Room s a out) e h
+
+-- the cursor behind what has been written
+abbrev pub behind : Written → Cursor
+behind w = record { place = length w.bytes; records = w.records }
+
+module _ (w : Written) (l : List ℕ) (k : ℕ) (out : List ℕ) (h : length w.bytes + length l ≤ length out) where
+  pub put-followed : Put l k (behind w) (behind (followed w l k)) (sets out 0 w.bytes) (sets out 0 (followed w l k).bytes)
+  put-followed = record {
+    stored = record {
+      place = length-append w.bytes l;
+      within = omega (arith, length-append w.bytes l, length-sets out 0 w.bytes);
+      entries = sym (ap (λ (i : ℕ). sets (sets out 0 w.bytes) i l) (sym (zero-add (length w.bytes))) ∙ sets-append w.bytes l out 0);
+    };
+    records = refl;
+  }

@@ -1,24 +1,26 @@
--- What a function that writes records at a cursor needs, and what it leaves behind.
---   Room l a out             == the bytes l fit into the buffer from cursor a on, and there are no more records than bytes before it
---   Put l k a b out after    == from cursor a to cursor b the bytes l were written, k records, and the rest of the buffer is as it was
---   Writes t a b out after   == so for the records of the tree t
---   linked mark l            == for each flag of l its record and an operator's mark
---   chained mark l           == the first flag's record, and the further flags so linked
-use Rattle.std.specs.Prelude.{List, [], ◌∷◌, ◌++◌, ◌≡◌, ℕ, ◌+◌, ◌≤◌, length}
-use Rattle.bits.specs.Stored.{Stored}
+-- What has been written, and what a function that writes records leaves behind.
+--   Written              == bytes, and how many records they are
+--   Fits l w             == the bytes l fit behind w
+--   followed w l k       == w, and behind it the bytes l, k records
+--   with_tree w t        == w, and behind it the records of the tree t
+--   linked mark l        == for each flag of l its record and an operator's mark
+--   chained mark l       == the first flag's record, and the further flags so linked
+use Rattle.std.specs.Prelude.{List, [], ◌∷◌, ◌++◌, ℕ, ◌+◌, ◌≤◌, length}
+use Rattle.rules.specs.Limits.{byte_limit}
 use Rattle.rules.specs.Tree.{Tree, VA, write, size}
-use Rattle.postfix.specs.declared.Cursor.{Cursor}
 
-pub record Room (l : List ℕ) (a : Cursor) (out : List ℕ) : Type 0 where
-  pub fits : a.place + length l ≤ length out
-  pub records : a.records ≤ a.place
+pub record Written : Type 0 where
+  pub bytes : List ℕ
+  pub records : ℕ
 
-pub record Put (l : List ℕ) (k : ℕ) (a b : Cursor) (out after : List ℕ) : Type 0 where
-  pub stored : Stored l a.place b.place out after
-  pub records : b.records ≡ a.records + k
+pub record Fits (l : List ℕ) (w : Written) : Type 0 where
+  pub room : length w.bytes + length l ≤ byte_limit
 
-abbrev pub Writes : Tree → Cursor → Cursor → List ℕ → List ℕ → Type 0
-Writes t a b out after = Put (write t) (size t) a b out after
+abbrev pub followed : Written → List ℕ → ℕ → Written
+followed w l k = record { bytes = w.bytes ++ l; records = w.records + k }
+
+abbrev pub with_tree : Written → Tree → Written
+with_tree w t = followed w (write t) (size t)
 
 -- "A product or an OR chain takes flags upwards, nested to the left": in postfix, a flag and the operator that joins it to those before.
 unfoldable pub linked : List ℕ → List ℕ → List ℕ

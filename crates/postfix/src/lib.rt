@@ -1,165 +1,199 @@
-// Trees written as postfix records at a cursor of a lent buffer: marks, leaves, products, OR chains, the raw form's balanced fold, and what the
-// cleanup writes for a whole OR family and for an absorption. After `build_monomial`, `build_or_chain`, `xor_tree`, `emit_raw_anf` and parts of
-// `cleanup_anf_memo` of `anf_cleanup.rs`. It rests on the definitions of `rules`.
+// Trees written as postfix records, each behind those that were written before: marks, leaves, products, OR chains, the raw form's balanced fold, and
+// what the cleanup writes for a whole OR family and for an absorption. After `build_monomial`, `build_or_chain`, `xor_tree`, `emit_raw_anf` and parts
+// of `cleanup_anf_memo` of `anf_cleanup.rs`. It rests on the places of a mask's ones (`mask_words`) and on the library's `arrayvec`.
 #![tactic(auto)]
 
-ghost use Rattle.std.specs.Prelude.{[], ◌∷◌, map, ◌+◌, ◌-◌, ◌*◌, ◌≤◌, ◌<◌, eqb, length, take, drop};
+ghost use Rattle.std.specs.Prelude.{[], ◌∷◌, map, ◌-◌, ◌*◌, ◌≤◌, ◌<◌, ◌≡◌, ◌++◌, length};
 ghost use Rattle.rules.specs.Cleanup.{atop};
 ghost use Rattle.rules.specs.Form.{flags, cube, or_chain, folded};
 ghost use Rattle.rules.specs.Tree.{CO, AN, NO, write};
-ghost use Rattle.postfix.specs.Written.{Room, Put, Writes, chained};
+ghost use Rattle.postfix.specs.Written.{Fits, followed, with_tree, chained};
 
-// Where the next record goes, and how many records stand before it.
-#[derive(Clone, Copy)]
-pub struct Cursor {
-    pub place: usize,
-    pub records: usize,
+use arrayvec::ArrayVec;
+use mask_words::Ones;
+use rules::BYTE_LIMIT;
+use std::marker::Model;
+
+// What has been written: the bytes, and how many records they are.
+#[derive(Drop)]
+pub struct Postfix {
+    bytes: ArrayVec<u8, BYTE_LIMIT>,
+    records: usize,
 }
 
-// A record of two bytes: an operator's mark.
-pub fn put_mark(first: u8, second: u8, out: &mut [u8], at: Cursor) -> Cursor
-    requires { Room (first ∷ second ∷ []) at out.old }
-    ensures { Put (first ∷ second ∷ []) 1 at result out.old out.new }
-{
-    let place = at.place;
-    let records = at.records;
-    out[place] = first;
-    out[place + 1] = second;
-    Cursor {
-        place: place + 2,
-        records: records + 1,
+impl Model for Postfix {
+    ghost use Rattle.std.specs.Prelude.{◌≤◌, length};
+    ghost use Rattle.postfix.specs.Written.{Written};
+
+    ghost Value = { Written };
+
+    ghost view = { λ p. record { bytes = p.bytes.items; records = p.records } };
+
+    ghost invariant = { λ p. p.records ≤ length p.bytes.items };
+}
+
+#[tactic(auto, unfolding(rules::specs::Tree::write, rules::specs::Tree::size, rules::specs::Ascii::ascii, rules::specs::Cleanup::atop))]
+impl Postfix {
+    // Nothing yet.
+    pub fn new() -> Postfix
+        ensures { result ≡ record { bytes = []; records = 0 } }
+    {
+        Postfix {
+            bytes: ArrayVec::new(),
+            records: 0,
+        }
     }
-}
 
-// A record of three bytes: a leaf's mark and its payload.
-pub fn put_leaf(first: u8, second: u8, payload: u8, out: &mut [u8], at: Cursor) -> Cursor
-    requires { Room (first ∷ second ∷ payload ∷ []) at out.old }
-    ensures { Put (first ∷ second ∷ payload ∷ []) 1 at result out.old out.new }
-{
-    let start = at.place;
-    let before = at.records;
-    out[start] = first;
-    out[start + 1] = second;
-    out[start + 2] = payload;
-    Cursor {
-        place: start + 3,
-        records: before + 1,
+    #[inline]
+    pub fn bytes(&self) -> &[u8]
+        ensures { result.now ≡ self.now.bytes }
+    {
+        self.bytes.as_slice()
     }
-}
 
-// A constant.
-pub fn put_constant(bit: u8, out: &mut [u8], at: Cursor) -> Cursor
-    requires { (bit < 2) × Room (write (CO (eqb bit 1))) at out.old }
-    ensures { Writes (CO (eqb bit 1)) at result out.old out.new }
-{
-    put_leaf(b'C', b'O', bit, out, at)
-}
-
-// The product of the flags of a mask.
-pub fn put_product(mask: usize, out: &mut [u8], at: Cursor) -> Cursor
-    requires { (0 < mask) × Room (write (cube mask)) at out.old }
-    ensures { Writes (cube mask) at result out.old out.new }
-{
-    put_chain(mask, b'A', b'N', out, at)
-}
-
-// The OR chain of the flags of a mask.
-pub fn put_or_chain(mask: usize, out: &mut [u8], at: Cursor) -> Cursor
-    requires { (0 < mask) × Room (write (or_chain mask)) at out.old }
-    ensures { Writes (or_chain mask) at result out.old out.new }
-{
-    put_chain(mask, b'O', b'R', out, at)
-}
-
-// The flags of a mask upwards, nested to the left: the first flag, then each further flag with the operator after it.
-fn put_chain(mask: usize, first: u8, second: u8, out: &mut [u8], at: Cursor) -> Cursor
-    requires { (0 < mask) × Room (chained (first ∷ second ∷ []) (flags mask)) at out.old }
-    ensures { Put (chained (first ∷ second ∷ []) (flags mask)) (2 * length (flags mask) - 1) at result out.old out.new }
-{
-    let mut left = mask & (mask - 1);
-    let mut next = put_leaf(b'V', b'A', u64::trailing_zeros(mask as u64) as u8, out, at);
-    while left != 0 {
-        let flag = put_leaf(
-            b'V',
-            b'A',
-            u64::trailing_zeros(left as u64) as u8,
-            out,
-            next,
-        );
-        next = put_mark(first, second, out, flag);
-        left = left & (left - 1);
+    #[inline]
+    pub fn records(&self) -> usize
+        ensures { result ≡ self.now.records }
+    {
+        self.records
     }
-    next
-}
 
-// One term of the raw form: the product of a mask, or the constant 1.
-pub fn put_term(mask: usize, out: &mut [u8], at: Cursor) -> Cursor
-    requires { Room (write (cube mask)) at out.old }
-    ensures { Writes (cube mask) at result out.old out.new }
-{
-    if mask == 0 {
-        return put_constant(1, out, at);
+    // A record of two bytes: an operator's mark.
+    #[inline]
+    pub fn put_mark(&mut self, mark: &[u8; 2])
+        requires { Fits mark.now self.old }
+        ensures { self.new ≡ followed self.old mark.now 1 }
+    {
+        self.bytes.push(mark[0]);
+        self.bytes.push(mark[1]);
+        self.records += 1;
     }
-    put_product(mask, out, at)
-}
 
-// The balanced fold of `count` terms from `from` on: half of them, the rest, and an XO.
-pub fn put_fold(terms: &[u32], from: usize, count: usize, out: &mut [u8], at: Cursor) -> Cursor
-    requires { (from + count ≤ length terms.now) × Room (write (folded (map cube (take count (drop from terms.now))))) at out.old }
-    ensures { Writes (folded (map cube (take count (drop from terms.now)))) at result out.old out.new }
-{
-    if count == 0 {
-        return put_constant(0, out, at);
+    // A record of three bytes: a leaf's mark and its payload.
+    #[inline]
+    pub fn put_leaf(&mut self, mark: &[u8; 2], payload: u8)
+        requires { Fits (mark.now ++ payload ∷ []) self.old }
+        ensures { self.new ≡ followed self.old (mark.now ++ payload ∷ []) 1 }
+    {
+        self.put_mark(mark);
+        self.bytes.push(payload);
     }
-    if count == 1 {
-        return put_term(terms[from] as usize, out, at);
-    }
-    let half = count / 2;
-    let left = put_fold(terms, from, half, out, at);
-    let right = put_fold(terms, from + half, count - half, out, left);
-    put_mark(b'X', b'O', out, right)
-}
 
-// A whole OR family: the chain of its flags, and with constant 1 the XO of CO 1 and the chain.
-pub fn put_family(constant: u8, mask: usize, out: &mut [u8], at: Cursor) -> Cursor
-    requires { (constant < 2) × (0 < mask) × Room (write (atop (eqb constant 1) (or_chain mask))) at out.old }
-    ensures { Writes (atop (eqb constant 1) (or_chain mask)) at result out.old out.new }
-{
-    if constant == 0 {
-        return put_or_chain(mask, out, at);
+    // A constant.
+    #[inline]
+    pub fn put_constant(&mut self, constant: bool)
+        requires { Fits (write (CO constant)) self.old }
+        ensures { self.new ≡ with_tree self.old (CO constant) }
+    {
+        self.put_leaf(b"CO", constant as u8);
     }
-    let one = put_constant(1, out, at);
-    let chain = put_or_chain(mask, out, one);
-    put_mark(b'X', b'O', out, chain)
-}
 
-// An absorption: a product and NO of the product of what the second mask has beyond the first, and with constant 1 the XO of CO 1 and that.
-pub fn put_absorption(
-    constant: u8,
-    first: usize,
-    second: usize,
-    out: &mut [u8],
-    at: Cursor,
-) -> Cursor
-    requires { (constant < 2) × (first ≤ second)
-        × Room (write (atop (eqb constant 1) (AN (cube first) (NO (cube (second - first)))))) at out.old }
-    ensures { Writes (atop (eqb constant 1) (AN (cube first) (NO (cube (second - first))))) at result out.old out.new }
-{
-    if constant == 0 {
-        return put_without(first, second - first, out, at);
+    // One term of the raw form: the product of a mask, or the constant 1.
+    #[tactic(auto, using(crate::proofs::Chains::chains))]
+    pub fn put_term(&mut self, mask: usize)
+        requires { Fits (write (cube mask)) self.old }
+        ensures { self.new ≡ with_tree self.old (cube mask) }
+    {
+        match mask {
+            0 => self.put_constant(true),
+            _ => self.put_product(mask),
+        }
     }
-    let head = put_constant(1, out, at);
-    let body = put_without(first, second - first, out, head);
-    put_mark(b'X', b'O', out, body)
-}
 
-// The product of a mask where the product of another is 0.
-fn put_without(mask: usize, other: usize, out: &mut [u8], at: Cursor) -> Cursor
-    requires { Room (write (AN (cube mask) (NO (cube other)))) at out.old }
-    ensures { Writes (AN (cube mask) (NO (cube other))) at result out.old out.new }
-{
-    let product = put_term(mask, out, at);
-    let excluded = put_term(other, out, product);
-    let turned = put_mark(b'N', b'O', out, excluded);
-    put_mark(b'A', b'N', out, turned)
+    // The product of the flags of a mask.
+    #[tactic(auto, using(crate::proofs::Chains::chains))]
+    pub fn put_product(&mut self, mask: usize)
+        requires some { 0 < mask }
+        requires fits { Fits (write (cube mask)) self.old }
+        ensures { self.new ≡ with_tree self.old (cube mask) }
+    {
+        self.put_chain(mask, b"AN");
+    }
+
+    // The OR chain of the flags of a mask.
+    #[tactic(auto, using(crate::proofs::Chains::chains))]
+    pub fn put_or_chain(&mut self, mask: usize)
+        requires some { 0 < mask }
+        requires fits { Fits (write (or_chain mask)) self.old }
+        ensures { self.new ≡ with_tree self.old (or_chain mask) }
+    {
+        self.put_chain(mask, b"OR");
+    }
+
+    // The flags of a mask upwards, nested to the left: the first flag, then each further flag with the operator after it.
+    #[tactic(auto, using(crate::proofs::Chains::links))]
+    fn put_chain(&mut self, mask: usize, mark: &[u8; 2])
+        requires { Fits (chained mark.now (flags mask)) self.old }
+        ensures { self.new ≡ followed self.old (chained mark.now (flags mask)) (2 * length (flags mask) - 1) }
+    {
+        let mut flags = Ones::of(mask as u64);
+        let Some(first) = flags.next() else {
+            return;
+        };
+        self.put_leaf(b"VA", first as u8);
+        for flag in flags {
+            self.put_leaf(b"VA", flag as u8);
+            self.put_mark(mark);
+        }
+    }
+
+    // The balanced fold of the terms: that of half of them, that of the rest, and an XO.
+    #[tactic(auto, using(crate::proofs::Fold::folds))]
+    pub fn put_fold(&mut self, terms: &[u32])
+        requires { Fits (write (folded (map cube terms.now))) self.old }
+        ensures { self.new ≡ with_tree self.old (folded (map cube terms.now)) }
+    {
+        match terms {
+            [] => self.put_constant(false),
+            [term] => self.put_term(*term as usize),
+            _ => {
+                let (half, rest) = terms.split_at(terms.len() / 2);
+                self.put_fold(half);
+                self.put_fold(rest);
+                self.put_mark(b"XO");
+            }
+        }
+    }
+
+    // A whole OR family: the chain of its flags, and with constant 1 the XO of CO 1 and the chain.
+    pub fn put_family(&mut self, constant: bool, mask: usize)
+        requires some { 0 < mask }
+        requires fits { Fits (write (atop constant (or_chain mask))) self.old }
+        ensures { self.new ≡ with_tree self.old (atop constant (or_chain mask)) }
+    {
+        if constant {
+            self.put_constant(constant);
+        }
+        self.put_or_chain(mask);
+        if constant {
+            self.put_mark(b"XO");
+        }
+    }
+
+    // An absorption: a product and NO of the product of what the second mask has beyond the first, and with constant 1 the XO of CO 1 and that.
+    // It stays beside `put_family`: what both share would take the writing of the tree as a closure, with a contract longer than these lines.
+    pub fn put_absorption(&mut self, constant: bool, first: usize, second: usize)
+        requires ascending { first ≤ second }
+        requires fits { Fits (write (atop constant (AN (cube first) (NO (cube (second - first)))))) self.old }
+        ensures { self.new ≡ with_tree self.old (atop constant (AN (cube first) (NO (cube (second - first))))) }
+    {
+        if constant {
+            self.put_constant(true);
+        }
+        self.put_without(first, second - first);
+        if constant {
+            self.put_mark(b"XO");
+        }
+    }
+
+    // The product of a mask where the product of another is 0.
+    fn put_without(&mut self, mask: usize, other: usize)
+        requires { Fits (write (AN (cube mask) (NO (cube other)))) self.old }
+        ensures { self.new ≡ with_tree self.old (AN (cube mask) (NO (cube other))) }
+    {
+        self.put_term(mask);
+        self.put_term(other);
+        self.put_mark(b"NO");
+        self.put_mark(b"AN");
+    }
 }

@@ -17,6 +17,5 @@ pub fn run<R: Read, W: Write>(input: &mut R, output: &mut W) -> io::Result<()>
 {
     let mut line = [0u8; 66];
     let length = fronts::read(input, &mut line)?;
-    let page = rule_text::print_rule(&line[..length]);
-    pages::write(output, page)
+    pages::write(output, rule_text::print_rule(&line[..length]))
 }

@@ -9,7 +9,6 @@
 --   costed-start, costed-step             == before the first record; one record more
 --   costed-reached                        == the reader's step can be asked
 --   costed-less, costed-more, costed-fits == no more is saved than records are read, nor with the next record, and so it fits
---   costed-fold                           == what a fold makes of the array's entries is e of the record's tree
 --   costed-end                            == at the end of the bytes, where one operand must be left
 use mathlib.Core.Bool.{Bool, true, false, ◌&&◌}
 use mathlib.Core.List.{List}
@@ -28,11 +27,11 @@ use Rattle.rules.specs.Record.{Kind, Constant, Flag, And, Or, Xor, Not, Found, o
 use Rattle.rules.specs.Tree.{Tree, cost, size}
 use Rattle.laws.proofs.cost.Saved.{is_or, saved, cost-saved}
 use Rattle.expr.specs.Inner.{or_of}
-use Rattle.reader.specs.Inner.{operand, Image, Reached, begun, ended}
-use Rattle.reader.proofs.Stack.{join, left_by, total-two, total-one, total-single, image-empty, size_of}
+use Rattle.reader.specs.Inner.{join, operand, Image, Reached, begun, ended}
+use Rattle.reader.proofs.Stack.{left_by, total-two, total-one, total-single, image-empty, size_of}
 use Rattle.reader.proofs.Turn.{Stepped}
 use Rattle.bits.proofs.Bit.{byte-digit}
-use Rattle.reader.proofs.Walk.{Walk, Folds, walk_start, walk_step, walk-stack, walk-image, walk_begins, walk-reached, walk_end, held, grown}
+use Rattle.reader.proofs.Walk.{Walk, walk_start, walk_step, walk-stack, walk-image, walk_begins, walk-reached, walk_end, held, grown}
 
 -- ---- one record
 
@@ -107,26 +106,16 @@ module _ {A : Type 0} {e : Tree → A} {n : ℕ} {s : List ℕ} {entries count p
   pub costed-fits : (b : Bool) → less + bool_byte b < 2 ^ 64
   costed-fits b = omega (arith, costed-more b, w.walk.few)
 
-  pub costed-fold : {f : Kind → A → A → A} → Folds e f → (d : A) (k : Kind) (base : ℕ) → base + operand_count k ≡ depth
-      → f k (get_or a base d) (get_or a (base + 1) d) ≡ e (grown w.walk k base).tree
-  costed-fold law d k base h =
-      let deep = w.walk.deep in
-      law k (held w.walk base).tree (held w.walk (base + 1)).tree (get_or a base d) (get_or a (base + 1) d)
-      (λ q. w.image d base (omega arith)) (λ q. w.image d (base + 1) (omega arith))
-
-  pub costed-step : {f : Kind → A → A → A} → Folds e f → (d : A) → {r : Found} → Stepped n s depth place count r
-      → (base : ℕ) → base + operand_count r.kind ≡ depth → base < entries
-      → (v : A) → v ≡ f r.kind (get_or a base d) (get_or a (base + 1) d)
-      → (o : Bool) → o ≡ or_of r.kind
+  pub costed-step : {r : Found} → Stepped n s depth place count r → (base : ℕ) → base + operand_count r.kind ≡ depth → base < entries
+      → (v : A) → v ≡ e (grown w.walk r.kind base).tree → (o : Bool) → o ≡ or_of r.kind
       → Costed e n s entries (count + 1) r.next (base + 1) (set a base v) (set ors base o)
       (set starts base (begun r.kind place (get_or starts base 0))) (less + bool_byte (o && get_or ors base false))
-  costed-step {f} law d {r} g base h below v is o or =
+  costed-step {r} g base h below v is o or =
       let deep = w.walk.deep in
       let first = get_or ors base false in
       record {
         walk = walk_step w.walk g.stands g.more base h;
-        image = walk-image w.walk g.stands g.more base h (λ x. e x.tree) a v (omega arith)
-            (is ∙ costed-fold law d r.kind base h) w.image;
+        image = walk-image w.walk g.stands g.more base h (λ x. e x.tree) a v (omega arith) is w.image;
         kinds = walk-image w.walk g.stands g.more base h is_or_of ors o (omega arith) (or ∙ or-join r.kind _ _) w.kinds;
         begins = walk_begins w.walk g.stands g.more base h starts (omega arith) w.begins;
         saves = ap (total saved_of) (walk-stack w.walk g.stands g.more base h)

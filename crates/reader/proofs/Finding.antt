@@ -1,13 +1,14 @@
 -- What the search for the record at a place keeps while it reads the records before it, and what each way to leave it says. It rests on the laws of
--- Walk, Turn and Reader.
+-- Walk, Turn and Reading.
 --   Finding n s asked starts depth at count
 --                        == count records are read, up to byte at, and what is asked for goes by the stack that they leave
 --   finding-start, finding-step    == before the first record; one record more before the place
 --   finding-reached      == the reader's step can be asked
---   finding-other        == where the step at an earlier byte gives no record, its answer is the one asked for
+--   finding-refused, finding-end == where the step at an earlier byte gives no record, its answer is the one asked for
 --   finding-inside       == a place inside the record before is refused
 use mathlib.Core.List.{List}
-use mathlib.Core.Path.{◌≡◌, refl, sym, ap, ◌∙◌}
+use mathlib.Core.Option.{none}
+use mathlib.Core.Path.{◌≡◌, sym, ap, ◌∙◌}
 use Prim.Native.Nat.{ℕ, ◌+◌, ◌-◌, ◌≤◌, ◌<◌}
 use native.Mathlib.Omega.{arith}
 use lib.ListN.{length, get_or, set, length-set}
@@ -15,14 +16,11 @@ use borrow.Author.Tests.{le-ltb}
 use Rattle.rules.specs.Calls.{read}
 use Rattle.rules.specs.Limits.{record_limit, rule_flags, few_operands}
 use Rattle.rules.specs.Machine.{node_from}
-use Rattle.rules.specs.Outcome.{refuses}
+use Rattle.rules.specs.Outcome.{gives, refuses}
 use Rattle.rules.specs.Record.{Found, operand_count}
 use Rattle.laws.proofs.reading.Run.{node-before}
-use Rattle.reader.specs.Answers.{reading_of}
 use Rattle.reader.specs.Inner.{Image, Reached, begun}
-use Rattle.reader.specs.declared.Node.{Node}
-use Rattle.reader.specs.declared.Reading.{Reading}
-use Rattle.reader.proofs.Reader.{later-refused, later-end}
+use Rattle.reader.proofs.Reading.{later-refused, later-end}
 use Rattle.reader.proofs.Stack.{image-empty}
 use Rattle.reader.proofs.Turn.{Stepped, answer-past}
 use Rattle.reader.proofs.Walk.{Walk, walk_start, walk_step, walk-asked, walk-stack, walk_begins, walk-reached}
@@ -59,11 +57,11 @@ module _ {n : ℕ} {s : List ℕ} {asked : ℕ} {starts : List ℕ} {depth at co
             ∙ ap (node_from (record_limit - (count + 1)) n s asked r.next) (sym (walk-stack w.walk f.stands f.more base h));
       }
 
-  pub finding-other : n ≤ rule_flags → at ≤ asked → (r : Reading) → ((x : Node) → r ≡ Reading.Found x → ⊥)
-      → reading_of r ≡ read n s at → reading_of r ≡ read n s asked
-  finding-other l h (Reading.Found node) o e = absurd (o node refl)
-  finding-other l h Reading.End o e = sym (later-end (finding-reached l) asked h (answer-past w.walk l (sym e)))
-  finding-other l h (Reading.Refused x) o e = sym (later-refused (finding-reached l) asked h x.number x.place (sym e))
+  pub finding-refused : n ≤ rule_flags → at ≤ asked → {k q : ℕ} → read n s at ≡ refuses k q → read n s asked ≡ refuses k q
+  finding-refused l h {k} {q} e = later-refused (finding-reached l) asked h k q e
+
+  pub finding-end : n ≤ rule_flags → at ≤ asked → read n s at ≡ gives none → read n s asked ≡ gives none
+  finding-end l h e = later-end (finding-reached l) asked h (answer-past w.walk l e)
 
   pub finding-inside : asked < at → read n s asked ≡ refuses few_operands asked
   finding-inside h = w.asks ∙ node-before n s asked at w.walk.stack (record_limit - count) h

@@ -1,7 +1,10 @@
 pub mod Stack
 pub mod Walk
 pub mod Turn
-pub mod Reader
+pub mod Reading
 pub mod Finding
 pub mod Costed
 pub mod Injective
+pub mod Passed
+pub mod Other
+pub mod Folds

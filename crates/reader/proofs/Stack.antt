@@ -1,7 +1,6 @@
 -- Laws of the machine's stack of operands: what a record does to it, and an array that holds the images of its operands, bottom first. It rests on
 -- `push` of rules' Machine alone.
---   join k x y               == the tree of a record of kind k over the trees x and y, of which it takes as many as the kind has
---   built p k x y             == the operand that such a record leaves, where it begins at byte p
+--   built p k x y             == the operand that a record of kind k over the operands x and y leaves, where it begins at byte p
 --   begun-none, begun-some   == a record with no operand begins its own, and any other with its first operand
 --   first_of k x, second_of k y == where its operands begin, 0 for none
 --   left_by k p ts base       == what such a record leaves of the stack ts, where its operands are those from place base on
@@ -24,16 +23,8 @@ use borrow.Author.Tests.{eq-eqb, ne_eqb, eqb-true, eqb-false}
 use Rattle.bits.specs.Sum.{sum, total}
 use Rattle.rules.specs.Machine.{Operand, Left, push, leaf, binary, unary}
 use Rattle.rules.specs.Record.{Kind, Constant, Flag, And, Or, Xor, Not, operand_count}
-use Rattle.rules.specs.Tree.{Tree, CO, VA, AN, OR, XO, NO, size}
-use Rattle.reader.specs.Inner.{operand, Image, begun}
-
-abbrev pub join : Kind → Tree → Tree → Tree
-join (Constant b) x y = CO b
-join (Flag i) x y = VA i
-join And x y = AN x y
-join Or x y = OR x y
-join Xor x y = XO x y
-join Not x y = NO x
+use Rattle.rules.specs.Tree.{Tree, AN, OR, XO, size}
+use Rattle.reader.specs.Inner.{join, operand, Image, begun}
 
 abbrev pub built : ℕ → Kind → Operand → Operand → Operand
 built p k x y = record { tree = join k x.tree y.tree; start = begun k p x.start }

@@ -4,7 +4,9 @@
 --   answer-past, answer-end      == the bytes end there, by the reader's answer and by the code's
 --   answer-refused             == the expression is refused so
 use mathlib.Core.List.{List}
-use mathlib.Core.Option.{Option, none, some}
+use Rattle.std.proofs.Math.Option.{none, some}
+use Rattle.std.proofs.Math.Option as math
+use Rattle.std.specs.Prelude.{Option, Some, None, Result, Ok, Err}
 use mathlib.Core.Path.{◌≡◌, refl, sym, ap, ◌∙◌, subst}
 use Prim.Native.Nat.{ℕ, zero, suc, ◌-◌, ◌≤◌, ◌<◌}
 use native.Mathlib.Decide.{dec_lt}
@@ -18,7 +20,8 @@ use Rattle.rules.specs.Machine as paper
 use Rattle.rules.specs.Machine.{Operand, Turn, turn, made}
 use Rattle.rules.specs.Outcome.{gives, refuses, ◌then◌}
 use Rattle.rules.specs.Record.{Found, operand_count}
-use Rattle.rules.specs.declared.Refusal.{Refusal}
+use Rattle.rules.specs.Refusal.{number}
+use Rattle.rules.specs.declared.refusal.Refusal.{Refusal}
 use Rattle.laws.proofs.calls.Outcome.{gives_same, not-both, none-some, then-gives, then-refuses}
 use Rattle.laws.proofs.reading.Run.{turn_node, turn-taken, turn-full, turn_end, turn-none, node-here}
 use Rattle.laws.proofs.reading.Stack.{no-left}
@@ -26,15 +29,8 @@ use Rattle.expr.proofs.ReadRecord.{Read, found-read}
 use Rattle.expr.specs.Answers.{kind_of}
 use Rattle.reader.specs.Answers.{node_of, reading_of}
 use Rattle.reader.specs.declared.Node.{Node}
-use Rattle.reader.specs.declared.Reading.{Reading}
 use Rattle.reader.proofs.Stack.{push-few}
 use Rattle.reader.proofs.Walk.{Walk, walk_refused}
-
--- the code's answer is the end where it is neither a record nor a refusal
-only_end : (r : Reading) → ((x : Node) → r ≡ Reading.Found x → ⊥) → ((x : Refusal) → r ≡ Reading.Refused x → ⊥) → r ≡ Reading.End
-only_end (Reading.Found node) p q = absurd (p node refl)
-only_end Reading.End p q = refl
-only_end (Reading.Refused refusal) p q = absurd (q refusal refl)
 
 -- what a record that a turn gives tells
 pub record Stepped (n : ℕ) (s : List ℕ) (depth place count : ℕ) (r : Found) : Type 0 where
@@ -74,15 +70,15 @@ module _ {n : ℕ} {s : List ℕ} {count place depth : ℕ} (w : Walk n s count 
   ]
 
   -- the turn that gave the reader's answer
-  answered : (o : Option paper.Node) → read n s place ≡ gives o
-      → (u : Option Turn) × (turn (record_limit - count) n s place os ≡ gives u) × (gives (turn_node u) ≡ gives o)
+  answered : (o : math.Option paper.Node) → read n s place ≡ gives o
+      → (u : math.Option Turn) × (turn (record_limit - count) n s place os ≡ gives u) × (gives (turn_node u) ≡ gives o)
   answered o e = then-gives (turn (record_limit - count) n s place os) _ o (sym here ∙ e)
 
-  pub answer-found : {r : Reading} {node : Node} → r ≡ Reading.Found node → reading_of r ≡ read n s place
+  pub answer-found : {r : Result (Option Node) Refusal} {node : Node} → r ≡ Ok (Some node) → reading_of r ≡ read n s place
       → Stepped n s depth place count (record { kind = kind_of node.kind; next = node.next })
   answer-found {node = node} e told = let a = answered (some (node_of node)) (sym told ∙ ap reading_of e) in go a.0 a.1 (gives_same a.2)
     where
-      go : (u : Option Turn) → turn (record_limit - count) n s place os ≡ gives u → turn_node u ≡ some (node_of node)
+      go : (u : math.Option Turn) → turn (record_limit - count) n s place os ≡ gives u → turn_node u ≡ some (node_of node)
           → Stepped n s depth place count (record { kind = kind_of node.kind; next = node.next })
       go none f g = absurd (none-some (ap gives g))
       go (some t) f g =
@@ -93,15 +89,14 @@ module _ {n : ℕ} {s : List ℕ} {count place depth : ℕ} (w : Walk n s count 
   pub answer-past : read n s place ≡ gives none → length s ≤ place
   answer-past e = let a = answered none e in go a.0 a.1 (gives_same a.2)
     where
-      go : (u : Option Turn) → turn (record_limit - count) n s place os ≡ gives u → turn_node u ≡ none → length s ≤ place
+      go : (u : math.Option Turn) → turn (record_limit - count) n s place os ≡ gives u → turn_node u ≡ none → length s ≤ place
       go none f g = turn-none n s place os (record_limit - count) f
       go (some t) f g = absurd (none-some (ap gives (sym g)))
 
-  pub answer-end : (r : Reading) → ((x : Node) → r ≡ Reading.Found x → ⊥) → ((x : Refusal) → r ≡ Reading.Refused x → ⊥)
-      → reading_of r ≡ read n s place → length s ≤ place
-  answer-end r h k told = answer-past (sym told ∙ ap reading_of (only_end r h k))
+  pub answer-end : {r : Result (Option Node) Refusal} → r ≡ Ok None → reading_of r ≡ read n s place → length s ≤ place
+  answer-end e told = answer-past (sym told ∙ ap reading_of e)
 
-  pub answer-refused : {r : Reading} {refusal : Refusal} → r ≡ Reading.Refused refusal → reading_of r ≡ read n s place
-      → made n s ≡ refuses refusal.number refusal.place
+  pub answer-refused : {r : Result (Option Node) Refusal} {refusal : Refusal} → r ≡ Err refusal → reading_of r ≡ read n s place
+      → made n s ≡ refuses (number refusal.reason) refusal.place
   answer-refused e told =
       walk_refused w (then-refuses (turn (record_limit - count) n s place os) turn_node _ _ (sym here ∙ sym told ∙ ap reading_of e))

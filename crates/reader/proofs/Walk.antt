@@ -2,7 +2,6 @@
 -- that, and what the reader's answer at its place says of the expression's tree. They hold for every walk, whatever its stack holds. They rest on
 -- the machine's turns (laws, Run), on a record that was read (expr, ReadRecord) and on the laws of Stack.
 --   Walk n s count place depth           == count records are read, up to place, and the machine's stack is depth deep there
---   Folds e f                            == f k gives e of a record's tree from e of its operands, of those that the kind k has
 --   held w i, grown w k base             == the stack's operand at place i; the operand of a record of kind k over those from place base on
 --   walk_start, walk_step                == before the first record; one record more
 --   walk-asked                           == a place behind the record is asked for after it as before it
@@ -33,7 +32,7 @@ use Rattle.rules.specs.Tree.{Tree, size}
 use Rattle.laws.proofs.reading.Run.{turn_of, turn-read, run-turn, run_end, run-refused, node-after}
 use Rattle.expr.proofs.ReadRecord.{Read}
 use Rattle.reader.specs.Inner.{operand, Image, Reached, begun, ended}
-use Rattle.reader.proofs.Stack.{join, built, left_by, push-enough, size_of, size-push, image-push, begun-none}
+use Rattle.reader.proofs.Stack.{built, left_by, push-enough, size_of, size-push, image-push, begun-none}
 
 pub record Walk (n : ℕ) (s : List ℕ) (count place depth : ℕ) : Type 0 where
   pub stack : List Operand
@@ -156,8 +155,3 @@ module _ {n : ℕ} {s : List ℕ} {count place depth : ℕ} (w : Walk n s count 
               let z : operand_count r.kind ≡ 0 = omega arith in
               begun-none r.kind place _ z ∙ sym (begun-none r.kind place _ z)
         ]) old
-
--- ---- what a walk keeps of a tree
-
-abbrev pub Folds : {A : Type 0} → (Tree → A) → (Kind → A → A → A) → Type 0
-Folds {A} e f = (k : Kind) (x y : Tree) (a b : A) → (1 ≤ operand_count k → a ≡ e x) → (2 ≤ operand_count k → b ≡ e y) → f k a b ≡ e (join k x y)

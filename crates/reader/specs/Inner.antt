@@ -1,4 +1,5 @@
 -- Walks over an expression's records, for the contracts of inner functions: what a walk knows of the records that it has read, and what it answers.
+--   join k x y           == the tree of a record of kind k over the trees x and y, of which it takes as many as the kind has
 --   operand os i         == the stack's operand at place i, counted from the bottom
 --   Image e os a         == the array a holds e of the stack's operands, bottom first; above them it holds anything
 --   Reached n s starts depth place count
@@ -18,8 +19,16 @@ use Rattle.rules.specs.Calls.{read}
 use Rattle.rules.specs.Limits.{bad_end, record_limit}
 use Rattle.rules.specs.Machine.{Operand, Node, node_from}
 use Rattle.rules.specs.Outcome.{Outcome, refuse}
-use Rattle.rules.specs.Record.{Kind, Found, operand_count}
-use Rattle.rules.specs.Tree.{CO}
+use Rattle.rules.specs.Record.{Kind, Constant, Flag, And, Or, Xor, Not, Found, operand_count}
+use Rattle.rules.specs.Tree.{Tree, CO, VA, AN, OR, XO, NO}
+
+abbrev pub join : Kind → Tree → Tree → Tree
+join (Constant b) x y = CO b
+join (Flag i) x y = VA i
+join And x y = AN x y
+join Or x y = OR x y
+join Xor x y = XO x y
+join Not x y = NO x
 
 unfoldable pub operand : List Operand → ℕ → Operand
 operand [] i = record { tree = CO false; start = 0 }

@@ -1,3 +1,2 @@
 pub mod Injective
-pub mod Filled
 pub mod Part

@@ -18,8 +18,8 @@ use Rattle.rules.specs.Limits.{rule_flags}
 use Rattle.rules.specs.Machine.{turn, finish, run, made}
 use Rattle.rules.specs.Outcome.{Outcome, gives, refuses, refuse}
 use Rattle.rules.specs.Tree.{Tree, size, depth}
-use Rattle.comparison.specs.Outcome.{results}
-use Rattle.recorded_calls.specs.Answers.{damage, chosen}
+use Rattle.comparison.specs.Outcome.{results, damage}
+use Rattle.recorded_calls.specs.Answers.{chosen}
 
 smaller-self : (t : Tree) → smaller t t ≡ false
 unfolding smaller

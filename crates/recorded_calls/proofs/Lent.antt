@@ -5,17 +5,17 @@
 use mathlib.Core.List.{List, map}
 use mathlib.Core.Path.{◌≡◌, ap, ◌∙◌}
 use Prim.Native.Nat.{ℕ, ◌-◌, ◌^◌, ◌≤◌, ◌<◌}
-use native.Mathlib.Nat.{sub-zero}
 use lib.ListN.{take, set, replicate}
 use borrow.Author.Tests.{le-leb, lt-leb}
 use Rattle.bits.specs.Range.{upto}
 use Rattle.rules.specs.Calls.{examine, raw_costing}
+use Rattle.comparison.specs.Outcome.{damage}
 use Rattle.comparison.specs.declared.outcome.Outcome.{Outcome}
 use Rattle.recorded.specs.Noise.{noisy}
 use Rattle.recorded.specs.Numbers.{word_at}
 use Rattle.recorded.specs.Results.{number_of}
 use Rattle.recorded.proofs.Part.{part-tabulated}
-use Rattle.recorded_calls.specs.Answers.{damage, within, examined, raw_costed}
+use Rattle.recorded_calls.specs.Answers.{within, examined, raw_costed}
 
 within-past : (k : ℕ) (o : Outcome) → 128 < k → damage ≡ within k o
 unfolding within
@@ -35,14 +35,12 @@ module _ (n k : ℕ) (b : List ℕ) where
   raw-past h = within-past k _ h
 
   pub examined-said : (s : List ℕ) {t : List ℕ} {r : Outcome} → k ≤ 128 → t ≡ map (noisy b) (upto 128) →
-      r ≡ number_of (examine n (take (k - 0) t) s) → r ≡ examined n k b s
+      r ≡ number_of (examine n (take k t) s) → r ≡ examined n k b s
   unfolding examined
   examined-said s h e f = f ∙ ap (λ (l : List ℕ). number_of (examine n l s)) (part-tabulated h (noisy b) e) ∙ within-said k _ h
 
   pub raw-said : {w : ℕ} {r : Outcome} → k ≤ 128 → w ≡ word_at b 0 →
-      r ≡ number_of (raw_costing n (take (k - 0) (set (replicate 128 (2 ^ 64 - 1)) 0 w))) → r ≡ raw_costed n k b
+      r ≡ number_of (raw_costing n (take k (set (replicate 128 (2 ^ 64 - 1)) 0 w))) → r ≡ raw_costed n k b
   unfolding raw_costed
   raw-said {w} h e f =
-      f ∙ ap (λ (j : ℕ). number_of (raw_costing n (take j (set (replicate 128 (2 ^ 64 - 1)) 0 w)))) (sub-zero k)
-      ∙ ap (λ (v : ℕ). number_of (raw_costing n (take k (set (replicate 128 (2 ^ 64 - 1)) 0 v)))) e
-      ∙ within-said k _ h
+      f ∙ ap (λ (v : ℕ). number_of (raw_costing n (take k (set (replicate 128 (2 ^ 64 - 1)) 0 v)))) e ∙ within-said k _ h

@@ -1,5 +1,4 @@
 -- The outcomes of document 01's calls in the numbers that the files have for them, and the calls as the program asks them.
---   damage               == what no file records
 --   costed_of o           == of costing: cost, size and depth
 --   within k o           == o, where at most 128 entries are lent
 --   examined n k b s     == the examination of the bytes s against a table of k entries whose lowest bits are those of b
@@ -12,20 +11,15 @@ use Rattle.bits.specs.Bit.{digit}
 use Rattle.bits.specs.Range.{upto}
 use Rattle.rules.specs.Calls.{Costs, parse, cheaper_of, examine, raw_costing}
 use Rattle.rules.specs.Outcome as result
-use Rattle.rules.specs.Outcome.{gives, refuses}
 use Rattle.cheaper.specs.Better.{better}
-use Rattle.comparison.specs.Outcome.{results, refusal}
+use Rattle.comparison.specs.Outcome.{results, numbers_of, damage}
 use Rattle.comparison.specs.declared.outcome.Outcome.{Outcome}
 use Rattle.recorded.specs.Noise.{noisy}
 use Rattle.recorded.specs.Numbers.{half_at, word_at}
 use Rattle.recorded.specs.Results.{number_of}
 
-abbrev pub damage : Outcome
-damage = refusal 256 0
-
 abbrev pub costed_of : result.Outcome Costs → Outcome
-costed_of (gives c) = results c.cost c.size c.depth 0
-costed_of (refuses k p) = refusal k p
+costed_of = numbers_of (λ c. (c.cost, c.size, c.depth, 0))
 
 unfoldable pub within : ℕ → Outcome → Outcome
 within k o = elim (leb k 128) [ true ↦ o | false ↦ damage ]

@@ -4,77 +4,59 @@
 
 ghost use Rattle.std.specs.Prelude.{◌≡◌};
 ghost use Rattle.rules.specs.Calls as paper;
-ghost use Rattle.comparison.specs.Outcome.{refusal as refusal_of};
 ghost use Rattle.recorded.specs.Results.{number_of};
 ghost use Rattle.recorded_calls.specs.Answers.{costed_of, examined, raw_costed, chosen, preferred};
 
-use anf_form::{RawCost, raw_anf_cost};
+use anf_form::raw_anf_cost;
 use cheaper::{cheaper, is_better};
-use comparison::outcome;
-use comparison::outcome::{Outcome, damaged, given};
-use evaluation::{Evaluation, evaluate};
-use examiner::{Examination, examine};
-use expr_cost::{Costing, Costs, compute_cost};
+use comparison::Outcome;
+use evaluation::evaluate;
+use examiner::examine;
+use expr_cost::{Costs, compute_cost};
 use recorded::numbers::{half_at, word_at};
 use recorded::slices::set_table;
-use rules::Refusal;
 
-fn refused(refusal: Refusal) -> Outcome
-    ensures { result ≡ refusal_of refusal.number refusal.place }
-{
-    outcome::refused(refusal.number, refusal.place)
-}
+// More entries than any whole file asks for.
+const ENTRIES: usize = 128;
 
 pub fn evaluation(flags: usize, bytes: &[u8], setting: usize) -> Outcome
     ensures { result ≡ number_of (paper.evaluate flags bytes.now setting) }
 {
     let answer = evaluate(flags, bytes, setting);
-    match answer {
-        Evaluation::Value(value) => given(value as usize, 0, 0, 0),
-        Evaluation::Refused(refusal) => refused(refusal),
-    }
+    Outcome::from(answer.map(|value| (value as usize, 0, 0, 0)))
 }
 
 pub fn costing(flags: usize, bytes: &[u8]) -> Outcome
     ensures { result ≡ costed_of (paper.costing flags bytes.now) }
 {
     let answer = compute_cost(flags, bytes);
-    match answer {
-        Costing::Known(costs) => given(costs.cost, costs.size, costs.depth, 0),
-        Costing::Refused(refusal) => refused(refusal),
-    }
+    Outcome::from(answer.map(|costs| (costs.cost, costs.size, costs.depth, 0)))
 }
 
 // The table has so many entries, whose lowest bits are `bits`.
 pub fn examination(flags: usize, entries: usize, bits: &[u8], bytes: &[u8]) -> Outcome
     ensures { result ≡ examined flags entries bits.now bytes.now }
 {
-    if entries > 128 {
-        return damaged();
+    if entries > ENTRIES {
+        return Outcome::damaged();
     }
-    let mut table = [0u64; 128];
+    let mut table = [0u64; ENTRIES];
     set_table(&mut table, bits);
-    let answer = examine(flags, &table[0..entries], bytes);
-    match answer {
-        Examination::Accepted(cost) => given(cost, 0, 0, 0),
-        Examination::Refused(refusal) => refused(refusal),
-    }
+    let answer = examine(flags, &table[..entries], bytes);
+    Outcome::from(answer.map(|cost| (cost, 0, 0, 0)))
 }
 
 // So many words are lent, of which the first is `bits` and the others, which must be ignored, are not 0.
 pub fn raw_costing(flags: usize, entries: usize, bits: &[u8]) -> Outcome
     ensures { result ≡ raw_costed flags entries bits.now }
 {
-    if entries > 128 {
-        return damaged();
+    if entries > ENTRIES {
+        return Outcome::damaged();
     }
-    let mut words = [u64::MAX; 128];
+    let mut words = [u64::MAX; ENTRIES];
     words[0] = word_at(bits, 0);
-    let answer = raw_anf_cost(flags, &words[0..entries]);
-    match answer {
-        RawCost::Cost(cost) => given(cost, 0, 0, 0),
-        RawCost::Refused(refusal) => refused(refusal),
-    }
+    let answer = raw_anf_cost(flags, &words[..entries]);
+    Outcome::from(answer.map(|cost| (cost, 0, 0, 0)))
 }
 
 // Which of the two is handed back: 0 for an empty slice, 1 for the first, 2 for the second, by length and bytes.
@@ -82,16 +64,16 @@ pub fn choice<'a>(flags: usize, first: &'a [u8], second: &'a [u8]) -> Outcome
     ensures { result ≡ chosen flags first.now second.now }
 {
     let chosen = cheaper(flags, first, second);
-    if chosen.len() == 0 {
-        return given(0, 0, 0, 0);
+    if chosen.is_empty() {
+        return Outcome::Results([0, 0, 0, 0]);
     }
-    if check::same(chosen, first) {
-        return given(1, 0, 0, 0);
+    if chosen == first {
+        return Outcome::Results([1, 0, 0, 0]);
     }
-    if check::same(chosen, second) {
-        return given(2, 0, 0, 0);
+    if chosen == second {
+        return Outcome::Results([2, 0, 0, 0]);
     }
-    damaged()
+    Outcome::damaged()
 }
 
 // Whether the second of two sizes and depths is better, as 0 or 1. The costs, by which neither must be chosen, are the
@@ -111,5 +93,5 @@ pub fn comparison(head: &[u8]) -> Outcome
         size: rival,
         depth: half_at(head, 12) as usize,
     };
-    given(is_better(second, first) as usize, 0, 0, 0)
+    Outcome::Results([is_better(second, first) as usize, 0, 0, 0])
 }

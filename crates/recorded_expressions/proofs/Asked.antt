@@ -9,7 +9,7 @@ use native.Mathlib.Omega.{arith}
 use lib.ListN.{length, get_or, get_or-eq_default}
 use borrow.Author.Tests.{le-leb, lt-leb}
 use Rattle.comparison.specs.declared.outcome.Outcome.{Outcome}
-use Rattle.recorded_calls.specs.Answers.{damage}
+use Rattle.comparison.specs.Outcome.{damage}
 use Rattle.recorded_expressions.specs.Cases.{answers, case_of}
 
 module _ (h a b : List ℕ) where

@@ -2,7 +2,6 @@
 --   word_of h           == the bytes of the table's bits, or of the first coefficient word
 --   answers h a b      == the outcome of each call, by its number from 1 on, with the arguments in h
 --   case_of h a b       == the outcome of the call that a whole head asks
---   changed o x        == the outcome o, its first result changed by x
 --   recorded_of h k x   == the recorded outcome, its number changed by k and its first result by x, of which 0 changes nothing
 --   agreed h a b k x   == the call answers so
 --   costs_agree h s     == the costing of s with six flags gives the three numbers in h
@@ -12,11 +11,11 @@ use Rattle.std.specs.Prelude.{Bool, true, false, List, [], ◌∷◌, ℕ, leb, 
 use Rattle.std.specs.Int.Bits.{bit_xor}
 use Rattle.rules.specs.Calls.{evaluate, costing}
 use Rattle.rules.specs.Limits.{rule_flags}
-use Rattle.comparison.specs.Outcome.{results, same_outcome}
+use Rattle.comparison.specs.Outcome.{results, damage, same_outcome}
 use Rattle.comparison.specs.declared.outcome.Outcome.{Outcome}
 use Rattle.recorded.specs.Numbers.{pair_at, word_at}
-use Rattle.recorded.specs.Results.{outcome_at, number_of}
-use Rattle.recorded_calls.specs.Answers.{damage, costed_of, examined, raw_costed, chosen, preferred}
+use Rattle.recorded.specs.Results.{recorded_as, outcome_at, number_of}
+use Rattle.recorded_calls.specs.Answers.{costed_of, examined, raw_costed, chosen, preferred}
 
 abbrev pub word_of : List ℕ → List ℕ
 word_of h = take 8 (drop 19 h)
@@ -34,18 +33,8 @@ answers h a b =
 unfoldable pub case_of : List ℕ → List ℕ → List ℕ → Outcome
 case_of h a b = elim (leb 38 (length h)) [ true ↦ get_or (answers h a b) (get_or h 0 0) damage | false ↦ damage ]
 
-abbrev pub changed : Outcome → ℕ → Outcome
-changed o x = record {
-  refused = o.refused;
-  number = o.number;
-  first = bit_xor o.first x;
-  second = o.second;
-  third = o.third;
-  fourth = o.fourth;
-}
-
 abbrev pub recorded_of : List ℕ → ℕ → ℕ → Outcome
-recorded_of h k x = changed (outcome_at (bit_xor (get_or h 31 0) k) h 32) x
+recorded_of h k x = recorded_as (bit_xor (get_or h 31 0) k) (bit_xor (pair_at h 32) x ∷ pair_at h 34 ∷ pair_at h 36 ∷ 0 ∷ [])
 
 abbrev pub agreed : List ℕ → List ℕ → List ℕ → ℕ → ℕ → Bool
 agreed h a b k x = same_outcome (case_of h a b) (recorded_of h k x)

@@ -1,19 +1,18 @@
 // One case of cases.bin: a call with its arguments, and the outcome that document 01 gives it. It rests on the calls; the
 // promises say that what is compared is the call on paper that the head's bytes ask.
-// `number` and `result` are 0, or 1 to make the outcome's number, or its first result, a wrong one.
+// `number` and `res` are 0, or 1 to make the outcome's number, or its first result, a wrong one.
 ghost use Rattle.std.specs.Prelude.{◌≡◌};
 ghost use Rattle.recorded_expressions.specs.Cases.{case_of, recorded_of, agreed};
 
-use comparison::outcome;
-use comparison::outcome::Outcome;
+use comparison::Outcome;
 use recorded::numbers::{byte_at, pair_at, word_at};
-use recorded::results::outcome_at;
+use recorded::results::recorded_as;
 
 fn answer<'a>(head: &[u8], first: &'a [u8], second: &'a [u8]) -> Outcome
     ensures { result ≡ case_of head.now first.now second.now }
 {
     if head.len() < 38 {
-        return outcome::damaged();
+        return Outcome::damaged();
     }
     let flags = word_at(head, 1) as usize;
     let setting = word_at(head, 9) as usize;
@@ -26,26 +25,22 @@ fn answer<'a>(head: &[u8], first: &'a [u8], second: &'a [u8]) -> Outcome
         3 => recorded_calls::examination(flags, entries, bits, first),
         4 => recorded_calls::raw_costing(flags, entries, bits),
         5 => recorded_calls::choice(flags, first, second),
-        _ => outcome::damaged(),
+        _ => Outcome::damaged(),
     }
 }
 
-fn expected(head: &[u8], number: u64, res: usize) -> Outcome
+fn expected(head: &[u8], number: u8, res: usize) -> Outcome
     ensures { result ≡ recorded_of head.now number res }
 {
-    let recorded = outcome_at(byte_at(head, 31) ^ number, head, 32);
-    Outcome {
-        refused: recorded.refused,
-        number: recorded.number,
-        first: recorded.first ^ res,
-        second: recorded.second,
-        third: recorded.third,
-        fourth: recorded.fourth,
-    }
+    let result_at = |at| pair_at(head, at) as usize;
+    recorded_as(
+        byte_at(head, 31) ^ number,
+        [result_at(32) ^ res, result_at(34), result_at(36), 0],
+    )
 }
 
-pub fn agrees<'a>(head: &[u8], first: &'a [u8], second: &'a [u8], number: u64, res: usize) -> bool
+pub fn agrees<'a>(head: &[u8], first: &'a [u8], second: &'a [u8], number: u8, res: usize) -> bool
     ensures { result ≡ agreed head.now first.now second.now number res }
 {
-    outcome::is_same(answer(head, first, second), expected(head, number, res))
+    answer(head, first, second) == expected(head, number, res)
 }

@@ -3,23 +3,20 @@
 ghost use Rattle.std.specs.Prelude.{◌≡◌};
 ghost use Rattle.recorded_expressions.specs.Cases.{test_agrees, choice_agrees};
 
-use comparison::outcome;
-use comparison::outcome::given;
+use comparison::Outcome;
 use recorded::numbers::byte_at;
+use recorded_calls as calls;
 use rules::RULE_FLAGS;
 
 pub fn compares(head: &[u8]) -> bool
     ensures { result ≡ test_agrees head.now }
 {
     let better = byte_at(head, 16) as usize;
-    outcome::is_same(recorded_calls::comparison(head), given(better, 0, 0, 0))
+    calls::comparison(head) == Outcome::Results([better, 0, 0, 0])
 }
 
 pub fn chooses<'a>(first: &'a [u8], second: &'a [u8], chosen: usize) -> bool
     ensures { result ≡ choice_agrees first.now second.now chosen }
 {
-    outcome::is_same(
-        recorded_calls::choice(RULE_FLAGS, first, second),
-        given(chosen, 0, 0, 0),
-    )
+    calls::choice(RULE_FLAGS, first, second) == Outcome::Results([chosen, 0, 0, 0])
 }

@@ -3,15 +3,11 @@
 ghost use Rattle.std.specs.Prelude.{◌≡◌};
 ghost use Rattle.recorded_expressions.specs.Cases.{costs_agree};
 
-use comparison::outcome;
 use recorded::results::outcome_at;
 use rules::RULE_FLAGS;
 
 pub fn agrees(head: &[u8], bytes: &[u8]) -> bool
     ensures { result ≡ costs_agree head.now bytes.now }
 {
-    outcome::is_same(
-        recorded_calls::costing(RULE_FLAGS, bytes),
-        outcome_at(0, head, 0),
-    )
+    recorded_calls::costing(RULE_FLAGS, bytes) == outcome_at(0, head, 0)
 }

@@ -8,27 +8,35 @@
 --   words-set                    == words of which the front was set
 use mathlib.Core.Bool.{Bool, true, false, ◌&&◌}
 use mathlib.Core.List.{List, ◌++◌}
-use mathlib.Core.Path.{◌≡◌, refl, ap, ap₂, ◌∙◌}
+use Rattle.std.specs.Prelude.{Result, Err, MatchResult, IsOkAnd}
+use mathlib.Core.Path.{◌≡◌, sym, ap, ap₂, ◌∙◌}
 use Prim.Native.Nat.{ℕ, ◌+◌, ◌-◌, ◌^◌, ◌≤◌, ◌<◌}
 use lib.ListN.{length, get_or, drop, replicate, length-replicate}
 use borrow.Author.Tests.{le-leb, lt-leb, lt-ltb, le-ltb}
 use Rattle.bits.proofs.Tabulated.{length-map-upto}
+use Rattle.bits.specs.Bit.{digit}
 use Rattle.rules.specs.Calls as paper
+use Rattle.rules.specs.Outcome as result
+use Rattle.rules.specs.Outcome.{front}
+use Rattle.rules.specs.declared.refusal.Refusal.{Refusal}
 use Rattle.anf_form.specs.Answers.{listing_of}
-use Rattle.anf_form.specs.declared.Listing.{Listing}
-use Rattle.anf_form.specs.declared.Listing.TheVariants.{Listed, Refused}
+use Rattle.anf_form.specs.declared.Contents.{Contents}
 use Rattle.comparison.specs.Called.{comes_to}
-use Rattle.comparison.specs.Outcome.{results, refusal}
+use Rattle.comparison.specs.Outcome.{Four, results, refusal, told}
 use Rattle.comparison.specs.declared.outcome.Outcome.{Outcome}
+use Rattle.comparison.proofs.Told.{told-of}
 use Rattle.recorded.specs.Numbers.{pair_at, words_in}
 use Rattle.recorded.proofs.Part.{rest-repeated}
 use Rattle.recorded.specs.Sizes.{entries_of, words_of}
-use Rattle.recorded_listings.specs.Listings.{listed_of, masks_after, listed_by, pattern, lent_words, masks_in}
+use Rattle.recorded_listings.specs.Listings.{listed_of, masks_after, contents_of, pattern, lent_words, masks_in}
 use Rattle.recorded_listings.specs.Listings.{refused_as, short_refused, listed_as, form_agrees}
 
-pub listed-told : (out : List ℕ) (a : Listing) → listed_by a ≡ listed_of (listing_of out a)
-listed-told out (Listed c) = rw (length-map-upto c.count (λ i. get_or out i 0))
-listed-told out (Refused r) = refl
+pub listed-told : (out : List ℕ) {o : result.Outcome paper.Listing} {x : Outcome} {P : Contents → Four → Type 0} (r : Result Contents Refusal)
+    (m : Result Four Refusal) → listing_of out r ≡ o → x ≡ told m → MatchResult r (λ k. IsOkAnd m (P k)) (λ e. m ≡ Err e)
+    → ((k : Contents) (t : Four) → P k t → t ≡ contents_of k) → x ≡ listed_of o
+listed-told out r m q g p each =
+    told-of (λ l. (digit l.constant, length l.masks, 0, 0)) (λ k. record { constant = k.constant; masks = front k.count out }) r m q g p
+    (λ k t f. each k t f ∙ ap (λ (j : ℕ). (digit k.constant, j, 0, 0)) (sym (length-map-upto k.count (λ i. get_or out i 0))))
 
 module _ (n : ℕ) (w : List ℕ) where
   -- the call with a buffer of the pattern, its length given by its entries
@@ -65,7 +73,7 @@ module _ (n : ℕ) (w : List ℕ) where
     listed-said f p q s t u v = by-room k _ s t v ∙ rw (le-leb (pair_at h 2) k f, u, p, q)
 
 pub masks-set : (j k : ℕ) (m s : List ℕ) {i : ℕ} {l : List ℕ} → j ≤ k → i ≡ j → s ≡ masks_in i m → l ≡ replicate k pattern →
-    s ++ drop (j - 0) l ≡ masks_in j m ++ replicate (k - j) pattern
+    s ++ drop j l ≡ masks_in j m ++ replicate (k - j) pattern
 masks-set j k m s f e p q = ap₂ ◌++◌ (p ∙ ap (λ (x : ℕ). masks_in x m) e) (rest-repeated f pattern q)
 
 pub agrees-said : (n : ℕ) (w h m : List ℕ) (f d : ℕ) {j k : ℕ} {e : Outcome} {r s t : Bool} → j ≡ entries_of n + 3 → k ≡ pair_at h 2 →
@@ -74,7 +82,7 @@ unfolding form_agrees
 agrees-said n w h m f d p q u x y z = rw (x, y, z, u, p, q)
 
 pub words-set : (n : ℕ) (c : List ℕ) {k j : ℕ} {l s : List ℕ} → k ≡ words_of n → k ≤ 1027 → j ≡ k → l ≡ replicate 1027 (2 ^ 64 - 1) →
-    s ≡ words_in j c → s ++ drop (k - 0) l ≡ lent_words n c
+    s ≡ words_in j c → s ++ drop k l ≡ lent_words n c
 words-set n c {k} e f g p q =
     ap₂ ◌++◌ (q ∙ ap (λ (i : ℕ). words_in i c) (g ∙ e))
     (rest-repeated f (2 ^ 64 - 1) p ∙ ap (λ (i : ℕ). replicate (1027 - i) (2 ^ 64 - 1)) e)

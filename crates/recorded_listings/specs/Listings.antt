@@ -10,34 +10,31 @@
 --   short_refused n w k d   == into d entries fewer than its k monomials it is refused by row 5; a form with fewer monomials has no such buffer
 --   listed_as n w k h m     == into k entries it tells the constant and the number that h has, and leaves the masks at the front
 --   form_agrees n w h m f d == the form is refused with f flags and in a buffer that lacks d entries, and else listed, with three entries to spare
-use Rattle.std.specs.Prelude.{Bool, ◌&&◌, ◌||◌, List, map, ◌++◌, ℕ, ◌+◌, ◌*◌, ◌-◌, ◌^◌, leb, ltb, length, get_or, replicate}
+use Rattle.std.specs.Prelude.{Result, Bool, ◌&&◌, ◌||◌, List, map, ◌++◌, ℕ, ◌+◌, ◌*◌, ◌-◌, ◌^◌, leb, ltb, length, get_or, replicate}
 use Rattle.bits.specs.Bit.{digit}
 use Rattle.bits.specs.Range.{upto}
 use Rattle.rules.specs.Calls as paper
 use Rattle.rules.specs.Outcome as result
-use Rattle.rules.specs.Outcome.{gives, refuses, left, ◌then◌}
+use Rattle.rules.specs.Outcome.{gives, left, ◌then◌}
+use Rattle.rules.specs.declared.refusal.Refusal.{Refusal}
 use Rattle.anf_form.specs.declared.Contents.{Contents}
-use Rattle.anf_form.specs.declared.Listing.{Listing}
-use Rattle.anf_form.specs.declared.Listing.TheVariants.{Listed, Refused}
 use Rattle.comparison.specs.Called.{comes_to}
-use Rattle.comparison.specs.Outcome.{results, refusal}
+use Rattle.comparison.specs.Outcome.{Four, results, refusal, numbers_of, answer_of}
 use Rattle.comparison.specs.declared.outcome.Outcome.{Outcome}
 use Rattle.recorded.specs.Numbers.{pair_at, words_in}
 use Rattle.recorded.specs.Sizes.{entries_of, words_of}
 
 abbrev pub listed_of : result.Outcome paper.Listing → Outcome
-listed_of (gives l) = results (digit l.constant) (length l.masks) 0 0
-listed_of (refuses k p) = refusal k p
+listed_of = numbers_of (λ l. (digit l.constant, length l.masks, 0, 0))
 
 abbrev pub masks_after : List ℕ → result.Outcome paper.Listing → List ℕ
 masks_after b o = left b (o then (λ l. gives l.masks))
 
-abbrev pub contents_of : Contents → Outcome
-contents_of c = results (digit c.constant) c.count 0 0
+abbrev pub contents_of : Contents → Four
+contents_of c = (digit c.constant, c.count, 0, 0)
 
-abbrev pub listed_by : Listing → Outcome
-listed_by (Listed c) = contents_of c
-listed_by (Refused r) = refusal r.number r.place
+abbrev pub listed_by : Result Contents Refusal → Outcome
+listed_by = answer_of contents_of
 
 abbrev pub pattern : ℕ
 pattern = 0x89AB_CDEF

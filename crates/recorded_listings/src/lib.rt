@@ -7,12 +7,12 @@
 ghost use Rattle.std.specs.Prelude.{◌≡◌, ◌+◌, ◌^◌, ◌≤◌, length, replicate};
 ghost use Rattle.rules.specs.Calls as paper;
 ghost use Rattle.comparison.specs.Called.{comes_to};
-ghost use Rattle.recorded_listings.specs.Listings.{listed_of, masks_after, contents_of, listed_by, pattern, lent_words};
+ghost use Rattle.recorded_listings.specs.Listings.{listed_of, masks_after, contents_of, pattern, lent_words};
 ghost use Rattle.recorded_listings.specs.Listings.{refused_as, short_refused, listed_as, form_agrees};
 
-use anf_form::{Contents, Listing, from_anf_coeffs};
-use comparison::masks;
-use comparison::outcome::{Outcome, given, is_same, refused};
+use anf_form::{Contents, from_anf_coeffs};
+use comparison::Outcome;
+use comparison::outcome::comes_to;
 use recorded::numbers::{byte_at, pair_at};
 use recorded::sizes;
 use recorded::slices::{set_masks, set_words};
@@ -21,19 +21,10 @@ use recorded::slices::{set_masks, set_words};
 const PATTERN: u32 = 0x89AB_CDEF;
 
 // The constant and the number of monomials are the results.
-fn listed(contents: Contents) -> Outcome
+fn numbers(contents: Contents) -> (usize, usize, usize, usize)
     ensures { result ≡ contents_of contents }
 {
-    given(contents.constant as usize, contents.count, 0, 0)
-}
-
-fn told(answer: Listing) -> Outcome
-    ensures { result ≡ listed_by answer }
-{
-    match answer {
-        Listing::Listed(contents) => listed(contents),
-        Listing::Refused(refusal) => refused(refusal.number, refusal.place),
-    }
+    (usize::from(contents.constant), contents.count, 0, 0)
 }
 
 // The listing call with the outcome that it must have and the whole buffer that it must leave.
@@ -42,7 +33,8 @@ fn lists_as(flags: usize, words: &[u64], out: &mut [u32], expected: Outcome, lef
         out.old expected left.now }
 {
     let answer = from_anf_coeffs(flags, words, out);
-    is_same(told(answer), expected) & masks::are_same(out, left)
+    let told = Outcome::from(answer.map(numbers));
+    comes_to(told, out, expected, left)
 }
 
 // What a listing is asked to refuse: so many flags, and a buffer with so many entries too few. One above the limit of flags
@@ -59,7 +51,7 @@ fn is_refused(flags: usize, words: &[u64], room: usize, expected: Outcome) -> bo
 {
     let mut out = [PATTERN; 65539];
     let left = [PATTERN; 65539];
-    lists_as(flags, words, &mut out[0..room], expected, &left[0..room])
+    lists_as(flags, words, &mut out[..room], expected, &left[..room])
 }
 
 // A form with fewer monomials than the buffer is to lack has no such buffer: an empty one takes it.
@@ -70,7 +62,7 @@ fn is_short_refused(flags: usize, words: &[u64], count: usize, lacking: usize) -
     if count < lacking {
         return true;
     }
-    is_refused(flags, words, count - lacking, refused(5, count))
+    is_refused(flags, words, count - lacking, Outcome::refused(5, count))
 }
 
 // `out` and `left` hold the pattern in each of their `room` entries.
@@ -90,8 +82,8 @@ fn lists(
     if count > room {
         return false;
     }
-    set_masks(&mut left[0..count], masks);
-    let expected = given(byte_at(head, 1) as usize, count, 0, 0);
+    set_masks(&mut left[..count], masks);
+    let expected = Outcome::Results([byte_at(head, 1) as usize, count, 0, 0]);
     lists_as(flags, words, out, expected, left)
 }
 
@@ -105,8 +97,8 @@ fn is_listed(flags: usize, words: &[u64], room: usize, head: &[u8], masks: &[u8]
         flags,
         words,
         room,
-        &mut out[0..room],
-        &mut left[0..room],
+        &mut out[..room],
+        &mut left[..room],
         head,
         masks,
     )
@@ -117,7 +109,7 @@ fn agrees(flags: usize, words: &[u64; 1027], head: &[u8], masks: &[u8], asked: A
 {
     let room = sizes::entries(flags) + 3;
     let count = pair_at(head, 2) as usize;
-    is_refused(asked.flags, words, room, refused(1, 0))
+    is_refused(asked.flags, words, room, Outcome::refused(1, 0))
         & is_short_refused(flags, words, count, asked.lacking)
         & is_listed(flags, words, room, head, masks)
 }
@@ -129,6 +121,6 @@ pub fn agrees_form(flags: usize, bytes: &[u8], head: &[u8], masks: &[u8], asked:
 {
     let count = sizes::words(flags);
     let mut words = [u64::MAX; 1027];
-    set_words(&mut words[0..count], bytes);
+    set_words(&mut words[..count], bytes);
     agrees(flags, &words, head, masks, asked)
 }

@@ -7,8 +7,7 @@
 use mathlib.Core.Bool.{Bool, false}
 use mathlib.Core.List.{List}
 use mathlib.Core.Path.{◌≡◌, ◌∙◌}
-use Prim.Native.Nat.{ℕ, ◌%◌, ◌≤◌, ◌<◌}
-use native.Mathlib.Nat.{mod-eq_of_lt}
+use Prim.Native.Nat.{ℕ, ◌≤◌, ◌<◌}
 use lib.ListN.{length, get_or, take, set}
 use lib.Seq.{set_out, set-set, set-get_or}
 use borrow.Author.Tests.{le-leb, lt-leb}
@@ -37,5 +36,5 @@ module _ (h b : List ℕ) {k : ℕ} (e : k ≡ half_at h 0) where
       pub agrees-whole : length b ≤ at → Told h r (take k b) → r ≡ reading_agrees h b
       agrees-whole j = said (take k b) (rw (← e, ← a, set_out b at (get_or h 8 0) j))
 
-      pub agrees-changed : {x y : ℕ} → x ≡ get_or h 8 0 → x < 256 → y ≡ x % 256 → Told h r (take k (set b at y)) → r ≡ reading_agrees h b
-      agrees-changed {x} {y} f j g = said (take k (set b at y)) (rw (← e, ← a, ← f, g, mod-eq_of_lt j))
+      pub agrees-changed : {x : ℕ} → x ≡ get_or h 8 0 → Told h r (take k (set b at x)) → r ≡ reading_agrees h b
+      agrees-changed {x} f = said (take k (set b at x)) (rw (← e, ← a, ← f))

@@ -6,36 +6,43 @@
 --   agrees-said      == where there is room, the comparison of the call decides
 use mathlib.Core.Bool.{Bool, false, ◌&&◌}
 use mathlib.Core.List.{List}
-use mathlib.Core.Path.{◌≡◌, refl, ap, ◌∙◌}
+use Rattle.std.specs.Prelude.{Result, Err, MatchResult, IsOkAnd}
+use Rattle.std.proofs.Common.{nat_eq}
+use Rattle.std.specs.Cmp.Lexicographic.{pointwise}
+use mathlib.Core.Path.{◌≡◌, sym, ap, ◌∙◌}
 use Prim.Native.Nat.{ℕ, ◌≤◌, ◌<◌}
 use lib.ListN.{length, replicate, length-replicate}
 use borrow.Author.Tests.{le-leb, lt-leb}
-use Rattle.bits.specs.Range.{same}
-use Rattle.rules.specs.Outcome.{left}
+use Rattle.rules.specs.Outcome as result
+use Rattle.rules.specs.Outcome.{front, left}
+use Rattle.rules.specs.declared.refusal.Refusal.{Refusal}
 use Rattle.laws.proofs.calls.Outcome.{length_front}
 use Rattle.rule_package.specs.Calls.{write_rule}
 use Rattle.package_writer.specs.Answers.{writing_of}
-use Rattle.package_writer.specs.declared.Writing.{Writing}
-use Rattle.package_writer.specs.declared.Writing.TheVariants as writing
 use Rattle.comparison.specs.Called.{comes_to}
-use Rattle.comparison.specs.Outcome.{same_outcome}
+use Rattle.comparison.specs.Outcome.{Four, told, same_outcome}
 use Rattle.comparison.specs.declared.outcome.Outcome.{Outcome}
 use Rattle.comparison.proofs.Called.{came}
+use Rattle.comparison.proofs.Told.{told-of}
 use Rattle.recorded.specs.Numbers.{word_at}
-use Rattle.recorded_packages.specs.Writings.{rule_of, written_of, written_by, outcome_at, pattern, longest, writing_agrees}
+use Rattle.recorded_packages.specs.Writings.{rule_of, written_of, outcome_at, pattern, longest, writing_agrees}
 
-written-told : (out : List ℕ) (a : Writing) → written_by a ≡ written_of (writing_of out a)
-written-told out (writing.Written k) = rw (length_front k out)
-written-told out (writing.Refused r) = refl
+written-told : (out : List ℕ) {o : result.Outcome (List ℕ)} {x : Outcome} {P : ℕ → Four → Type 0} (r : Result ℕ Refusal) (m : Result Four Refusal)
+    → writing_of out r ≡ o → x ≡ told m → MatchResult r (λ k. IsOkAnd m (P k)) (λ e. m ≡ Err e)
+    → ((k : ℕ) (t : Four) → P k t → t ≡ (k, 0, 0, 0)) → x ≡ written_of o
+written-told out r m q g p each =
+    told-of (λ l. (length l, 0, 0, 0)) (λ k. front k out) r m q g p
+    (λ k t f. each k t f ∙ ap (λ (j : ℕ). (j, 0, 0, 0)) (sym (length_front k out)))
 
 module _ (h s l : List ℕ) where
-  module _ (b out : List ℕ) (a : Writing) {n w : ℕ} (p : n ≡ word_at h 0) (q : w ≡ word_at h 8) where
-    pub wrote : {x e : Outcome} {r t : Bool} →
-        writing_of out a ≡ write_rule (record { flags = n; table = w; expression = s }) (length b) →
+  module _ (b out : List ℕ) (r : Result ℕ Refusal) (m : Result Four Refusal) {n w : ℕ} (p : n ≡ word_at h 0) (q : w ≡ word_at h 8) where
+    pub wrote : {x e : Outcome} {v : Bool} {P : ℕ → Four → Type 0} →
+        writing_of out r ≡ write_rule (record { flags = n; table = w; expression = s }) (length b) →
         out ≡ left b (write_rule (record { flags = n; table = w; expression = s }) (length b)) →
-        x ≡ written_by a → e ≡ outcome_at h → r ≡ same_outcome x e → t ≡ same out l →
-        (r && t) ≡ comes_to written_of left (write_rule (rule_of h s) (length b)) b (outcome_at h) l
-    wrote f g i j c d = rw (← q, ← p, ← j) (came written_of left _ _ _ _ (i ∙ written-told out a ∙ ap written_of f) g c d)
+        x ≡ told m → MatchResult r (λ k. IsOkAnd m (P k)) (λ e. m ≡ Err e) → ((k : ℕ) (t : Four) → P k t → t ≡ (k, 0, 0, 0)) →
+        e ≡ outcome_at h → v ≡ (same_outcome x e && pointwise nat_eq out l) →
+        v ≡ comes_to written_of left (write_rule (rule_of h s) (length b)) b (outcome_at h) l
+    wrote f g i z each j c = rw (← q, ← p, ← j) (came written_of left _ _ _ _ (written-told out r m f i z each) g c)
 
   pub agrees-past : longest < length l → false ≡ writing_agrees h s l
   unfolding writing_agrees

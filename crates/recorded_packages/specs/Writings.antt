@@ -6,38 +6,29 @@
 --   pattern               == what every byte of the buffer holds before
 --   longest               == more bytes than any recorded buffer has
 --   writing_agrees h s l   == l has at most so many bytes, and the writer, asked with a buffer of its length, answers so and leaves l
-use Rattle.std.specs.Prelude.{Bool, not, ◌&&◌, List, ℕ, leb, eqb, length, get_or, replicate}
+use Rattle.std.specs.Prelude.{Bool, ◌&&◌, List, [], ◌∷◌, ℕ, Result, leb, length, get_or, replicate}
 use Rattle.rules.specs.Outcome as result
-use Rattle.rules.specs.Outcome.{gives, refuses, left}
+use Rattle.rules.specs.Outcome.{left}
+use Rattle.rules.specs.declared.refusal.Refusal.{Refusal}
 use Rattle.rule_package.specs.Calls.{write_rule}
 use Rattle.rule_package.specs.Rule.{Rule}
-use Rattle.package_writer.specs.declared.Writing.{Writing}
-use Rattle.package_writer.specs.declared.Writing.TheVariants as writing
 use Rattle.comparison.specs.Called.{comes_to}
-use Rattle.comparison.specs.Outcome.{results, refusal}
+use Rattle.comparison.specs.Outcome.{numbers_of, answer_of}
 use Rattle.comparison.specs.declared.outcome.Outcome.{Outcome}
 use Rattle.recorded.specs.Numbers.{pair_at, word_at}
+use Rattle.recorded.specs.Results.{recorded_as}
 
 abbrev pub rule_of : List ℕ → List ℕ → Rule
 rule_of h s = record { flags = word_at h 0; table = word_at h 8; expression = s }
 
 abbrev pub written_of : result.Outcome (List ℕ) → Outcome
-written_of (gives l) = results (length l) 0 0 0
-written_of (refuses k p) = refusal k p
+written_of = numbers_of (λ l. (length l, 0, 0, 0))
 
-abbrev pub written_by : Writing → Outcome
-written_by (writing.Written k) = results k 0 0 0
-written_by (writing.Refused r) = refusal r.number r.place
+abbrev pub written_by : Result ℕ Refusal → Outcome
+written_by = answer_of (λ k. (k, 0, 0, 0))
 
 abbrev pub outcome_at : List ℕ → Outcome
-outcome_at h = record {
-  refused = not (eqb (get_or h 20 0) 0);
-  number = get_or h 20 0;
-  first = pair_at h 21;
-  second = 0;
-  third = 0;
-  fourth = 0;
-}
+outcome_at h = recorded_as (get_or h 20 0) (pair_at h 21 ∷ 0 ∷ 0 ∷ 0 ∷ [])
 
 abbrev pub pattern : ℕ
 pattern = 0xA5

@@ -7,47 +7,40 @@ ghost use Rattle.rule_package.specs.Calls.{read_rule};
 ghost use Rattle.recorded.specs.Numbers.{word_at};
 ghost use Rattle.recorded_packages.specs.Readings.{numbers_of, numbers_at, reading_agrees};
 
-use comparison::words::are_same;
-use package_reader::{RuleReading, read_rule};
-use recorded::numbers::{byte_at, half_at, low_byte, pair_at, word_at};
+use package_reader::{RuleAt, read_rule};
+use recorded::numbers::{byte_at, half_at, pair_at, word_at};
+use rules::Refusal;
 
-fn are_recorded(numbers: &[u64], head: &[u8]) -> bool
-    ensures { result ≡ same numbers.now (numbers_at head.now) }
+fn recorded(head: &[u8]) -> [u64; 7]
+    ensures { result ≡ numbers_at head.now }
 {
-    let recorded = [
-        byte_at(head, 17),
-        byte_at(head, 18),
-        byte_at(head, 19),
+    [
+        byte_at(head, 17) as u64,
+        byte_at(head, 18) as u64,
+        byte_at(head, 19) as u64,
         word_at(head, 20),
-        half_at(head, 28),
-        pair_at(head, 32),
-        half_at(head, 34),
-    ];
-    are_same(numbers, &recorded)
+        half_at(head, 28) as u64,
+        pair_at(head, 32) as u64,
+        half_at(head, 34) as u64,
+    ]
 }
 
 // Kind, refusal, flag count, table, start, length, and the next place or that of a refusal.
-fn is_recorded(reading: RuleReading, head: &[u8]) -> bool
-    ensures { result ≡ same (numbers_of (rule_reading_of reading)) (numbers_at head.now) }
+fn numbers(reading: Result<Option<RuleAt>, Refusal>) -> [u64; 7]
+    ensures { result ≡ numbers_of (rule_reading_of reading) }
 {
     match reading {
-        RuleReading::End => are_recorded(&[0, 0, 0, 0, 0, 0, 0], head),
-        RuleReading::Found(rule) => are_recorded(
-            &[
-                1,
-                0,
-                rule.flags as u64,
-                rule.table,
-                rule.start as u64,
-                rule.length as u64,
-                rule.next as u64,
-            ],
-            head,
-        ),
-        RuleReading::Refused(refusal) => are_recorded(
-            &[2, refusal.number, 0, 0, 0, 0, refusal.place as u64],
-            head,
-        ),
+        Ok(None) => [0, 0, 0, 0, 0, 0, 0],
+        Ok(Some(rule)) => [
+            1,
+            0,
+            rule.flags as u64,
+            rule.table,
+            rule.start as u64,
+            rule.length as u64,
+            rule.next as u64,
+        ],
+        Err(refusal) => [2, refusal.number(), 0, 0, 0, 0, refusal.place as u64],
     }
 }
 
@@ -56,7 +49,7 @@ fn asked(head: &[u8], bytes: &[u8]) -> bool
     ensures { result ≡ same (numbers_of (read_rule bytes.now (word_at head.now 9))) (numbers_at head.now) }
 {
     let reading = read_rule(bytes, word_at(head, 9) as usize);
-    is_recorded(reading, head)
+    numbers(reading) == recorded(head)
 }
 
 // The byte that is changed is put back, so that one package serves many readings.
@@ -73,7 +66,7 @@ pub fn agrees(head: &[u8], bytes: &mut [u8]) -> bool
         return asked(head, &bytes[..handed]);
     }
     let byte = bytes[at];
-    bytes[at] = low_byte(byte_at(head, 8));
+    bytes[at] = byte_at(head, 8);
     let is_same = asked(head, &bytes[..handed]);
     bytes[at] = byte;
     is_same

@@ -4,12 +4,13 @@ ghost use Rattle.std.specs.Prelude.{◌≡◌, length};
 ghost use Rattle.rules.specs.Outcome.{left};
 ghost use Rattle.rule_package.specs.Calls.{write_rule};
 ghost use Rattle.comparison.specs.Called.{comes_to};
-ghost use Rattle.recorded_packages.specs.Writings.{rule_of, written_of, written_by, outcome_at, writing_agrees};
+ghost use Rattle.recorded_packages.specs.Writings.{rule_of, written_of, outcome_at, writing_agrees};
 
-use comparison::outcome;
-use comparison::outcome::Outcome;
-use package_writer::{Writing, write_rule};
+use comparison::Outcome;
+use comparison::outcome::comes_to;
+use package_writer::write_rule;
 use recorded::numbers::{byte_at, pair_at, word_at};
+use recorded::results::recorded_as;
 
 // Fills the buffer before the call, so that a change past the rule, or after a refusal, shows.
 const PATTERN: u8 = 0xA5;
@@ -17,30 +18,13 @@ const PATTERN: u8 = 0xA5;
 // More than any head asks for.
 const ROOM: usize = 2048;
 
-// The rule's length is the result.
-fn told(writing: Writing) -> Outcome
-    ensures { result ≡ written_by writing }
-{
-    match writing {
-        Writing::Written(length) => outcome::given(length, 0, 0, 0),
-        Writing::Refused(refusal) => outcome::refused(refusal.number, refusal.place),
-    }
-}
-
 fn expected(head: &[u8]) -> Outcome
     ensures { result ≡ outcome_at head.now }
 {
-    let number = byte_at(head, 20);
-    Outcome {
-        refused: number != 0,
-        number,
-        first: pair_at(head, 21) as usize,
-        second: 0,
-        third: 0,
-        fourth: 0,
-    }
+    recorded_as(byte_at(head, 20), [pair_at(head, 21) as usize, 0, 0, 0])
 }
 
+// The rule's length is the result.
 fn asked(head: &[u8], expression: &[u8], out: &mut [u8], after: &[u8]) -> bool
     ensures { result ≡ comes_to written_of left (write_rule (rule_of head.now expression.now) (length out.old))
         out.old (outcome_at head.now) after.now }
@@ -48,7 +32,8 @@ fn asked(head: &[u8], expression: &[u8], out: &mut [u8], after: &[u8]) -> bool
     let flags = word_at(head, 0) as usize;
     let table = word_at(head, 8);
     let writing = write_rule(flags, table, expression, out);
-    outcome::is_same(told(writing), expected(head)) & check::same(out, after)
+    let told = Outcome::from(writing.map(|length| (length, 0, 0, 0)));
+    comes_to(told, out, expected(head), after)
 }
 
 // The room is as long as `after`, which it must hold afterwards.
@@ -60,5 +45,5 @@ pub fn agrees(head: &[u8], expression: &[u8], after: &[u8]) -> bool
         return false;
     }
     let mut out = [PATTERN; ROOM];
-    asked(head, expression, &mut out[0..room], after)
+    asked(head, expression, &mut out[..room], after)
 }

@@ -9,13 +9,12 @@ use native.Mathlib.Decide.{dec_lt}
 use native.Mathlib.Omega.{arith}
 use lib.Dec.{eqb, ltb}
 use borrow.Author.Tests.{lt-ltb, le-ltb, ne_eqb}
-use Rattle.bits.proofs.Injective.{told-apart}
 use Rattle.rules.specs.Machine.{Node}
 use Rattle.rules.specs.Outcome as result
-use Rattle.rules.specs.Outcome.{gives, refuses}
 use Rattle.rules.specs.Record.{Kind, Constant, Flag, And, Or, Xor, Not}
-use Rattle.comparison.specs.declared.outcome.Outcome.{Outcome}
-use Rattle.recorded_readings.specs.Readings.{code_of, read_of}
+use Rattle.comparison.specs.Outcome.{Four}
+use Rattle.comparison.proofs.Told.{numbers_of-injective}
+use Rattle.recorded_readings.specs.Readings.{code_of, numbers_of, read_of}
 
 abbrev pick : {A : Type 0} → Bool → A → A → A
 pick true a b = a
@@ -75,18 +74,13 @@ not_end Or = refl
 not_end Xor = refl
 not_end Not = refl
 
-abbrev node : Kind → Outcome → Node
-node k o = record { kind = k; first = o.third; second = o.fourth; next = o.second }
+abbrev back : Four → Option Node
+back t = pick (eqb t.0 255) none (some (record { kind = kind t.0; first = t.2; second = t.3; next = t.1 }))
 
-abbrev reading : Bool → Outcome → result.Outcome (Option Node)
-reading true o = refuses o.number o.first
-reading false o = pick (eqb o.first 255) (gives none) (gives (some (node (kind o.first) o)))
-
-reading-of : (o : result.Outcome (Option Node)) → reading (read_of o).refused (read_of o) ≡ o
-reading-of (gives (some r)) =
-    rw (not_end r.kind) (ap (λ (k : Kind). gives (some (node k (read_of (gives (some r)))))) (kind-of r.kind))
-reading-of (gives none) = refl
-reading-of (refuses k p) = refl
+back-of : (f : Option Node) → back (numbers_of f) ≡ f
+back-of (some r) = rw (not_end r.kind) (ap (λ (k : Kind). some (record { kind = k; first = r.first; second = r.second; next = r.next }))
+    (kind-of r.kind))
+back-of none = refl
 
 pub read_of-injective : (o q : result.Outcome (Option Node)) → read_of o ≡ read_of q → o ≡ q
-read_of-injective = told-apart read_of (λ o. reading o.refused o) reading-of
+read_of-injective = numbers_of-injective numbers_of back back-of

@@ -3,30 +3,27 @@
 // folder has the format.
 #![tactic(auto)]
 
-ghost use Rattle.std.proofs.Math.Option.{some};
-ghost use Rattle.std.specs.Prelude.{◌≡◌, ◌<◌};
+ghost use Rattle.std.specs.Prelude.{◌≡◌};
 ghost use Rattle.rules.specs.Calls as paper;
-ghost use Rattle.rules.specs.Outcome.{gives};
 ghost use Rattle.rules.specs.Record.{Flag};
 ghost use Rattle.expr.specs.Answers.{kind_of};
-ghost use Rattle.reader.specs.Answers.{node_of};
-ghost use Rattle.recorded_readings.specs.Readings.{code_of, read_of, reading_at, reading_agrees};
+ghost use Rattle.reader.specs.Answers.{found_of};
+ghost use Rattle.recorded_readings.specs.Readings.{code_of, numbers_of, read_of, reading_at, reading_agrees};
 
-use comparison::outcome;
-use comparison::outcome::{Outcome, given};
+use comparison::Outcome;
 use expr::Kind;
-use reader::{Node, Reading};
+use reader::Node;
 use recorded::numbers::{byte_at, pair_at, word_at};
+use recorded::results::recorded_as;
 
 // A flag by the number that the files have for it. They have eight, so that any other takes a number that no file has.
-fn flag_code(index: usize) -> usize
-    requires { index < 256 }
+fn flag_code(index: u8) -> usize
     ensures { result ≡ code_of (Flag index) }
 {
     if index < 8 {
-        return 2 + index;
+        return 2 + usize::from(index);
     }
-    256 + index
+    256 + usize::from(index)
 }
 
 // A record by the number that the files have for it.
@@ -34,8 +31,8 @@ fn code(kind: Kind) -> usize
     ensures { result ≡ code_of (kind_of kind) }
 {
     match kind {
-        Kind::Constant(value) => value as usize,
-        Kind::Variable(index) => flag_code(index as usize),
+        Kind::Constant(value) => usize::from(value),
+        Kind::Variable(index) => flag_code(index),
         Kind::And => 10,
         Kind::Or => 11,
         Kind::Xor => 12,
@@ -43,37 +40,31 @@ fn code(kind: Kind) -> usize
     }
 }
 
-fn found(node: Node) -> Outcome
-    ensures { result ≡ read_of (gives (some (node_of node))) }
+// A record, or the end, which takes a number that no record has.
+fn numbers(found: Option<Node>) -> (usize, usize, usize, usize)
+    ensures { result ≡ numbers_of (found_of found) }
 {
-    let kind = node.kind;
-    given(code(kind), node.next, node.first, node.second)
+    match found {
+        Some(node) => (code(node.kind), node.next, node.first, node.second),
+        None => (255, 0, 0, 0),
+    }
 }
 
 fn answer(flags: usize, bytes: &[u8], place: usize) -> Outcome
     ensures { result ≡ read_of (paper.read flags bytes.now place) }
 {
-    let answer = reader::read(flags, bytes, place);
-    match answer {
-        Reading::Found(node) => found(node),
-        Reading::End => given(255, 0, 0, 0),
-        Reading::Refused(refusal) => outcome::refused(refusal.number, refusal.place),
-    }
+    Outcome::from(reader::read(flags, bytes, place).map(numbers))
 }
 
 // Four results, two bytes each.
 fn expected(head: &[u8]) -> Outcome
     ensures { result ≡ reading_at head.now }
 {
-    let number = byte_at(head, 18);
-    Outcome {
-        refused: number != 0,
-        number,
-        first: pair_at(head, 19) as usize,
-        second: pair_at(head, 21) as usize,
-        third: pair_at(head, 23) as usize,
-        fourth: pair_at(head, 25) as usize,
-    }
+    let result_at = |at| usize::from(pair_at(head, at));
+    recorded_as(
+        byte_at(head, 18),
+        [result_at(19), result_at(21), result_at(23), result_at(25)],
+    )
 }
 
 pub fn agrees(head: &[u8], bytes: &[u8]) -> bool
@@ -81,5 +72,5 @@ pub fn agrees(head: &[u8], bytes: &[u8]) -> bool
 {
     let flags = word_at(head, 0) as usize;
     let place = word_at(head, 8) as usize;
-    outcome::is_same(answer(flags, bytes, place), expected(head))
+    answer(flags, bytes, place) == expected(head)
 }

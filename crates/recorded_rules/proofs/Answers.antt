@@ -1,15 +1,22 @@
 -- Answers in numbers. It rests on the length of a buffer's front (bits, Tabulated).
 --   compiled-told      == an answer in numbers is the outcome that it tells
-use mathlib.Core.List.{List}
-use mathlib.Core.Path.{◌≡◌, refl}
-use Prim.Native.Nat.{ℕ}
-use lib.ListN.{get_or}
+use Rattle.std.specs.Prelude.{◌≡◌, ℕ, List, length, get_or, Result, Err, MatchResult, IsOkAnd}
+use mathlib.Core.Path.{sym, ap, ◌∙◌}
 use Rattle.bits.proofs.Tabulated.{length-map-upto}
-use Rattle.compiler.specs.Answers.{compilation_of}
-use Rattle.compiler.specs.declared.Compilation.{Compilation}
-use Rattle.compiler.specs.declared.Compilation.TheVariants as compilation
-use Rattle.recorded_rules.specs.Answers.{compiled_of, compiled_by}
+use Rattle.rules.specs.Calls as paper
+use Rattle.rules.specs.Outcome as result
+use Rattle.rules.specs.declared.refusal.Refusal.{Refusal}
+use Rattle.compiler.specs.Answers.{expression_of, compilation_of}
+use Rattle.compiler.specs.declared.Expression.{Expression}
+use Rattle.comparison.specs.Outcome.{Four, told}
+use Rattle.comparison.specs.declared.outcome.Outcome.{Outcome}
+use Rattle.comparison.proofs.Told.{told-of}
+use Rattle.recorded_rules.specs.Answers.{compiled_of}
 
-pub compiled-told : (out : List ℕ) (a : Compilation) → compiled_by a ≡ compiled_of (compilation_of out a)
-compiled-told out (compilation.Written e) = rw (length-map-upto e.bytes (λ i. get_or out i 0))
-compiled-told out (compilation.Refused r) = refl
+pub compiled-told : (out : List ℕ) {o : result.Outcome paper.Compilation} {x : Outcome} {P : Expression → Four → Type 0}
+    (r : Result Expression Refusal) (m : Result Four Refusal) → compilation_of out r ≡ o → x ≡ told m
+    → MatchResult r (λ e. IsOkAnd m (P e)) (λ e. m ≡ Err e) → ((e : Expression) (t : Four) → P e t → t ≡ (e.cost, e.raw, e.records, e.bytes))
+    → x ≡ compiled_of o
+compiled-told out r m q g p each =
+    told-of (λ c. (c.cost, c.raw, c.records, length c.bytes)) (expression_of out) r m q g p
+    (λ e t f. each e t f ∙ ap (λ (j : ℕ). (e.cost, e.raw, e.records, j)) (sym (length-map-upto e.bytes (λ i. get_or out i 0))))

@@ -2,23 +2,21 @@
 --   compiled_of o     == of the compiler's outcome on paper: cost, raw cost, number of records and number of bytes, or the refusal
 --   bytes_after b o   == what a lent buffer that held b holds after it
 --   compiled_by a     == of an answer
-use Rattle.std.specs.Prelude.{List, ℕ, length}
+use Rattle.std.specs.Prelude.{List, ℕ, length, Result}
 use Rattle.rules.specs.Calls as paper
 use Rattle.rules.specs.Outcome as result
-use Rattle.rules.specs.Outcome.{gives, refuses, left}
+use Rattle.rules.specs.Outcome.{left}
+use Rattle.rules.specs.declared.refusal.Refusal.{Refusal}
 use Rattle.compiler.specs.Answers.{bytes_of}
-use Rattle.compiler.specs.declared.Compilation.{Compilation}
-use Rattle.compiler.specs.declared.Compilation.TheVariants as compilation
-use Rattle.comparison.specs.Outcome.{results, refusal}
+use Rattle.compiler.specs.declared.Expression.{Expression}
+use Rattle.comparison.specs.Outcome.{numbers_of, answer_of}
 use Rattle.comparison.specs.declared.outcome.Outcome.{Outcome}
 
 abbrev pub compiled_of : result.Outcome paper.Compilation → Outcome
-compiled_of (gives c) = results c.cost c.raw c.records (length c.bytes)
-compiled_of (refuses k p) = refusal k p
+compiled_of = numbers_of (λ c. (c.cost, c.raw, c.records, length c.bytes))
 
 abbrev pub bytes_after : List ℕ → result.Outcome paper.Compilation → List ℕ
 bytes_after b o = left b (bytes_of o)
 
-abbrev pub compiled_by : Compilation → Outcome
-compiled_by (compilation.Written e) = results e.cost e.raw e.records e.bytes
-compiled_by (compilation.Refused r) = refusal r.number r.place
+abbrev pub compiled_by : Result Expression Refusal → Outcome
+compiled_by = answer_of (λ e. (e.cost, e.raw, e.records, e.bytes))

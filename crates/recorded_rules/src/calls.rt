@@ -3,36 +3,23 @@
 // those calls; the promises say that what is compared is the call on paper.
 ghost use Rattle.std.specs.Prelude.{◌≡◌, length};
 ghost use Rattle.rules.specs.Calls as paper;
-ghost use Rattle.anf_form.specs.Answers.{raw_cost_of};
-ghost use Rattle.examiner.specs.Answers.{examination_of};
 ghost use Rattle.comparison.specs.Called.{comes_to};
 ghost use Rattle.comparison.specs.Outcome.{results, same_outcome};
 ghost use Rattle.recorded.specs.Results.{number_of};
-ghost use Rattle.recorded_rules.specs.Answers.{compiled_of, compiled_by, bytes_after};
+ghost use Rattle.recorded_rules.specs.Answers.{compiled_of, bytes_after};
 ghost use Rattle.recorded_rules.specs.Rule.{table_raw_costing};
 
-use anf_form::{RawCost, raw_anf_cost};
+use anf_form::raw_anf_cost;
 use anf_transform::compute_anf;
-use comparison::outcome;
-use comparison::outcome::Outcome;
-use compiler::{Compilation, build_anf_expr};
-use examiner::{Examination, examine};
+use comparison::Outcome;
+use comparison::outcome::comes_to;
+use compiler::build_anf_expr;
+use examiner::examine;
 
 // Fills a buffer before a call, so that a change past the result, or after a refusal, shows.
 pub const PATTERN: u8 = 0xA5;
 
 // Cost, raw cost, number of records and number of bytes are the results.
-fn compiled(answer: Compilation) -> Outcome
-    ensures { result ≡ compiled_by answer }
-{
-    match answer {
-        Compilation::Written(rule) => {
-            outcome::given(rule.cost, rule.raw, rule.records, rule.bytes)
-        }
-        Compilation::Refused(refusal) => outcome::refused(refusal.number, refusal.place),
-    }
-}
-
 pub fn compiles_to(
     flags: usize,
     table: &[u64],
@@ -44,32 +31,15 @@ pub fn compiles_to(
         out.old expected left.now }
 {
     let answer = build_anf_expr(flags, table, out);
-    outcome::is_same(compiled(answer), expected) & check::same(out, left)
-}
-
-fn examined(answer: Examination) -> Outcome
-    ensures { result ≡ number_of (examination_of answer) }
-{
-    match answer {
-        Examination::Accepted(cost) => outcome::given(cost, 0, 0, 0),
-        Examination::Refused(refusal) => outcome::refused(refusal.number, refusal.place),
-    }
+    let told = Outcome::from(answer.map(|rule| (rule.cost, rule.raw, rule.records, rule.bytes)));
+    comes_to(told, out, expected, left)
 }
 
 pub fn is_accepted(flags: usize, table: &[u64], bytes: &[u8], cost: usize) -> bool
     ensures { result ≡ same_outcome (number_of (paper.examine flags table.now bytes.now)) (results cost 0 0 0) }
 {
     let answer = examine(flags, table, bytes);
-    outcome::is_same(examined(answer), outcome::given(cost, 0, 0, 0))
-}
-
-fn raw_costed(answer: RawCost) -> Outcome
-    ensures { result ≡ number_of (raw_cost_of answer) }
-{
-    match answer {
-        RawCost::Cost(cost) => outcome::given(cost, 0, 0, 0),
-        RawCost::Refused(refusal) => outcome::refused(refusal.number, refusal.place),
-    }
+    Outcome::from(answer.map(|cost| (cost, 0, 0, 0))) == Outcome::Results([cost, 0, 0, 0])
 }
 
 // The coefficients of a rule's table are one word. Where the transform refuses, the word stays 0; the compiler then refuses too, so the rule differs.
@@ -77,7 +47,7 @@ pub fn costs_raw(flags: usize, table: &[u64], raw: usize) -> bool
     ensures { result ≡ same_outcome (number_of (table_raw_costing flags table.now)) (results raw 0 0 0) }
 {
     let mut words = [0u64; 1];
-    compute_anf(flags, table, &mut words);
+    let _ = compute_anf(flags, table, &mut words);
     let answer = raw_anf_cost(flags, &words);
-    outcome::is_same(raw_costed(answer), outcome::given(raw, 0, 0, 0))
+    Outcome::from(answer.map(|cost| (cost, 0, 0, 0))) == Outcome::Results([raw, 0, 0, 0])
 }

@@ -5,7 +5,7 @@ ghost use Rattle.std.specs.Prelude.{◌≡◌};
 ghost use Rattle.recorded_rules.specs.Rule.{agree};
 
 use crate::calls::{PATTERN, compiles_to, costs_raw, is_accepted};
-use comparison::outcome::given;
+use comparison::Outcome;
 use recorded::numbers::pair_at;
 use rules::BYTE_LIMIT;
 
@@ -19,7 +19,7 @@ pub fn agrees(flags: usize, table: &[u64], answer: &[u8], left: &[u8], length: u
     let cost = pair_at(answer, 0) as usize;
     let raw = pair_at(answer, 2) as usize;
     let records = pair_at(answer, 4) as usize;
-    let expected = given(cost, raw, records, length);
+    let expected = Outcome::Results([cost, raw, records, length]);
     let mut out = [PATTERN; BYTE_LIMIT];
     compiles_to(flags, table, &mut out, expected, left)
         & is_accepted(flags, table, &left[..length], cost)

@@ -3,60 +3,42 @@
 // the file; its data folder has the format.
 #![tactic(auto)]
 
-ghost use Rattle.std.specs.Prelude.{◌≡◌, ◌<◌};
+ghost use Rattle.std.specs.Prelude.{◌≡◌};
 ghost use Rattle.rules.specs.Calls as paper;
 ghost use Rattle.recorded.specs.Numbers.{words_in};
 ghost use Rattle.recorded.specs.Results.{number_of};
 ghost use Rattle.recorded_stars.specs.Stars.{stars_at, stars_agree};
 
-use comparison::outcome;
-use comparison::outcome::{Outcome, given};
+use comparison::Outcome;
 use recorded::numbers::{byte_at, word_at};
+use recorded::results::recorded_as;
 use recorded::slices::set_words;
-use stars::{StarEvaluation, evaluate_stars};
+use stars::evaluate_stars;
 
 // More words than any head asks for.
 const WORDS: usize = 256;
 
-fn answer(flags: usize, words: &[u64], bytes: &[u8]) -> Outcome
-    ensures { result ≡ number_of (paper.evaluate_stars flags words.now bytes.now) }
-{
-    let answer = evaluate_stars(flags, words, bytes);
-    match answer {
-        StarEvaluation::Values(values) => given(values as usize, 0, 0, 0),
-        StarEvaluation::Refused(refusal) => outcome::refused(refusal.number, refusal.place),
-    }
-}
-
 // So many words are lent, which stand in `lent`.
-fn asked(flags: usize, count: usize, lent: &[u8], bytes: &[u8]) -> Outcome
-    requires { count < 256 }
+fn asked(flags: usize, count: u8, lent: &[u8], bytes: &[u8]) -> Outcome
     ensures { result ≡ number_of (paper.evaluate_stars flags (words_in count lent.now) bytes.now) }
 {
     let mut words = [0u64; WORDS];
-    set_words(&mut words, lent);
-    answer(flags, &words[0..count], bytes)
+    let words = &mut words[..usize::from(count)];
+    set_words(words, lent);
+    let answer = evaluate_stars(flags, words, bytes);
+    Outcome::from(answer.map(|values| (values as usize, 0, 0, 0)))
 }
 
 // The values, or the place of a refusal, take eight bytes.
 fn expected(head: &[u8]) -> Outcome
     ensures { result ≡ stars_at head.now }
 {
-    let number = byte_at(head, 11);
-    Outcome {
-        refused: number != 0,
-        number,
-        first: word_at(head, 12) as usize,
-        second: 0,
-        third: 0,
-        fourth: 0,
-    }
+    recorded_as(byte_at(head, 11), [word_at(head, 12) as usize, 0, 0, 0])
 }
 
 pub fn agrees(head: &[u8], lent: &[u8], bytes: &[u8]) -> bool
     ensures { result ≡ stars_agree head.now lent.now bytes.now }
 {
     let flags = word_at(head, 0) as usize;
-    let count = byte_at(head, 8) as usize;
-    outcome::is_same(asked(flags, count, lent, bytes), expected(head))
+    asked(flags, byte_at(head, 8), lent, bytes) == expected(head)
 }

@@ -22,7 +22,7 @@ use Rattle.recorded_transforms.specs.Answers.{outcome_of}
 use Rattle.recorded_transforms.specs.Table.{pattern, padded, transformed, restored}
 
 pub padded-set : (n : ℕ) (g : ℕ → ℕ) {m : ℕ} {l s : List ℕ} → 3 ≤ n → m ≡ n - 3 →
-    l ≡ replicate n pattern → s ≡ map g (upto m) → s ++ drop (n - 3 - 0) l ≡ padded (map g (upto (n - 3)))
+    l ≡ replicate n pattern → s ≡ map g (upto m) → s ++ drop (n - 3) l ≡ padded (map g (upto (n - 3)))
 padded-set n g h f p q =
     let three : n - (n - 3) ≡ 3 = omega arith in
     let least : n - 3 ≤ n = omega arith in

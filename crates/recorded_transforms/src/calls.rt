@@ -4,24 +4,14 @@ ghost use Rattle.std.specs.Prelude.{◌≡◌, length};
 ghost use Rattle.rules.specs.Calls.{transform, way_back};
 ghost use Rattle.rules.specs.Outcome as outcomes;
 ghost use Rattle.comparison.specs.Called.{comes_to};
-ghost use Rattle.recorded_transforms.specs.Answers.{outcome_of, numbers_of};
+ghost use Rattle.recorded_transforms.specs.Answers.{outcome_of};
 
-use anf_transform::{Filled, compute_anf, compute_table};
-use comparison::outcome::Outcome;
-use comparison::{outcome, words};
+use anf_transform::{compute_anf, compute_table};
+use comparison::Outcome;
+use comparison::outcome::comes_to;
 
 // Fills a buffer before a call, so that a change past the result, or after a refusal, shows.
 pub const PATTERN: u64 = 0x0123_4567_89AB_CDEF;
-
-// The number of entries is the result.
-fn told(answer: Filled) -> Outcome
-    ensures { result ≡ numbers_of answer }
-{
-    match answer {
-        Filled::Entries(count) => outcome::given(count, 0, 0, 0),
-        Filled::Refused(refusal) => outcome::refused(refusal.number, refusal.place),
-    }
-}
 
 pub fn transforms_to(
     flags: usize,
@@ -34,7 +24,8 @@ pub fn transforms_to(
         out.old expected left.now }
 {
     let answer = compute_anf(flags, table, out);
-    outcome::is_same(told(answer), expected) & words::are_same(out, left)
+    let told = Outcome::from(answer.map(|count| (count, 0, 0, 0)));
+    comes_to(told, out, expected, left)
 }
 
 pub fn goes_back_to(
@@ -48,5 +39,6 @@ pub fn goes_back_to(
         entries.old expected left.now }
 {
     let answer = compute_table(flags, coefficients, entries);
-    outcome::is_same(told(answer), expected) & words::are_same(entries, left)
+    let told = Outcome::from(answer.map(|count| (count, 0, 0, 0)));
+    comes_to(told, entries, expected, left)
 }

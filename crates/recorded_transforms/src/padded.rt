@@ -15,7 +15,7 @@ pub fn set_words(list: &mut [u64], bytes: &[u8])
 {
     let count = list.len() - 3;
     slices::set_pattern(list, PATTERN);
-    slices::set_words(&mut list[0..count], bytes);
+    slices::set_words(&mut list[..count], bytes);
 }
 
 // Bits as entries.
@@ -25,5 +25,5 @@ pub fn set_bits(list: &mut [u64], bytes: &[u8])
 {
     let count = list.len() - 3;
     slices::set_pattern(list, PATTERN);
-    slices::set_bits(&mut list[0..count], bytes);
+    slices::set_bits(&mut list[..count], bytes);
 }

@@ -1,11 +1,9 @@
-// A recorded file, from its opening to the line of what was compared. It rests on std's files and on fronts of files.
+// A recorded file, opened and read. It rests on std's files and on fronts of files.
 // A file that cannot be opened reads as an empty one, so that its line shows that nothing was compared. A read or a write that
 // fails ends the replay with its error.
-ghost use Rattle.std.specs.Prelude.{IfOk, IsTrue};
+ghost use Rattle.std.specs.Prelude.{◌≡◌, IfOk, IsTrue, length};
 ghost use Rattle.std.specs.Io.KnownBytes.{Consumes, IsAtEnd};
 
-use crate::line;
-use comparison::tally::Tally;
 use std::io::Read;
 use std::rt::Files;
 use std::{fs, io};
@@ -32,15 +30,11 @@ impl<F: Read> Read for Opened<F> {
 }
 
 // A file that cannot be opened is complained of on standard error, where a complaint that cannot be written is lost.
-pub fn open<R: Files + Eprint>(rt: &R, path: &[u8]) -> Opened<R::File> {
-    let Ok(name) = str::from_utf8(path) else {
-        let _ = eprintln!(rt; "the name of a file is no text");
-        return Opened { file: None };
-    };
-    match fs::open(rt, name) {
+pub fn open<R: Files + Eprint>(rt: &R, path: &str) -> Opened<R::File> {
+    match fs::open(rt, path) {
         Ok(file) => Opened { file: Some(file) },
         Err(e) => {
-            let _ = eprintln!(rt; "{name}: {e}");
+            let _ = eprintln!(rt; "{path}: {e}");
             Opened { file: None }
         }
     }
@@ -54,15 +48,7 @@ pub fn fills<R: Read>(file: &mut R, buffer: &mut [u8]) -> io::Result<bool>
     Ok(fronts::read(file, buffer)? == buffer.len())
 }
 
-// `kind` names what was counted.
-pub fn close<R: Print, F: Drop>(
-    rt: &R,
-    file: F,
-    path: &[u8],
-    kind: &[u8],
-    tally: Tally,
-) -> io::Result<()> {
-    line::print(rt, path, kind, tally)?;
-    drop(file);
-    Ok(())
+// Whether the next bytes fill the first buffer, and those after them the second.
+pub fn fills_both<R: Read>(file: &mut R, first: &mut [u8], second: &mut [u8]) -> io::Result<bool> {
+    Ok(fills(file, first)? && fills(file, second)?)
 }

@@ -1,63 +1,32 @@
-// The files that data/names lists, a line each: the list read, and each file opened with its name written. It rests on std's
-// printing and on the opening of a file.
-ghost use Rattle.std.specs.Prelude.{◌≤◌, ◌<◌, length};
-ghost use Rattle.std.specs.Io.{ReadsAtMost};
-
+// A program run on each file that data/names lists, a line each, in that order, with the file's name written before what the program writes. It
+// rests on std's printing and on the opening of a file.
 use crate::file;
 use crate::file::Opened;
 use std::io;
 use std::rt::Files;
 
-// Reads the list and answers its length.
-pub fn list<R: Files + Eprint>(rt: &R, names: &mut [u8]) -> io::Result<usize>
-    ensures { ReadsAtMost result names.new }
-{
-    let mut list = file::open(rt, b"names");
-    fronts::read(&mut list, names)
-}
+// More than any list has.
+const LIST_BYTES: usize = 4096;
 
-// The place of the first newline from `start` on, or the end.
-fn line_end(names: &[u8], start: usize) -> usize
-    requires { start ≤ length names.now }
-    ensures { (start ≤ result) × (result ≤ length names.now) }
-{
-    let mut at = start;
-    while at < names.len() {
-        if names[at] == b'\n' {
-            return at;
-        }
-        at += 1;
-    }
-    at
-}
-
-// The start of the next line, or the end.
-pub fn next(names: &[u8], start: usize) -> usize
-    requires { start < length names.now }
-    ensures { (start < result) × (result ≤ length names.now) }
-{
-    let end = line_end(names, start);
-    if end == names.len() {
-        return end;
-    }
-    end + 1
-}
-
-// Opens the file that the line from `start` on names, and writes its name. A file that cannot be opened is complained of
-// and not named, so that it shows as a difference.
-pub fn open<R: Files + Print + Eprint>(
+// A file that cannot be opened is complained of and not named, so that it shows as a difference.
+pub fn run_each<R: Files + Print + Eprint, F: FnMut(&mut Opened<R::File>) -> io::Result<()>>(
     rt: &R,
-    names: &[u8],
-    start: usize,
-) -> io::Result<Opened<R::File>>
-    requires { start ≤ length names.now }
+    mut run: F,
+) -> io::Result<()>
+    requires { F.IsAlwaysCallable run }
 {
-    let end = line_end(names, start);
-    let path = &names[start..end];
-    let opened = file::open(rt, path);
-    if opened.is_open() {
-        rt.write_all(path)?;
-        rt.write_all(b"\n")?;
+    let mut list = [0; LIST_BYTES];
+    let length = fronts::read(&mut file::open(rt, "names"), &mut list)?;
+    let Ok(names) = str::from_utf8(&list[..length]) else {
+        let _ = eprintln!(rt; "the list of files is no text");
+        return Ok(());
+    };
+    for name in names.lines() {
+        let mut opened = file::open(rt, name);
+        if opened.is_open() {
+            println!(rt; "{name}")?;
+        }
+        run(&mut opened)?;
     }
-    Ok(opened)
+    Ok(())
 }

@@ -11,15 +11,13 @@ use std::io::Read;
 fn is_chosen<R: Read>(file: &mut R, one: usize, other: usize, chosen: usize) -> io::Result<bool> {
     let mut first = [0u8; EXPRESSION_BYTES];
     let mut second = [0u8; EXPRESSION_BYTES];
-    let length = records::read(file, one, &mut first)?;
-    let rest = records::read(file, other, &mut second)?;
-    if length > EXPRESSION_BYTES {
+    let Some(length) = records::read(file, one, &mut first)? else {
         return Ok(false);
-    }
-    if rest > EXPRESSION_BYTES {
+    };
+    let Some(rest) = records::read(file, other, &mut second)? else {
         return Ok(false);
-    }
-    Ok(chooses(&first[0..length], &second[0..rest], chosen))
+    };
+    Ok(chooses(&first[..length], &second[..rest], chosen))
 }
 
 pub fn is_same<R: Read>(file: &mut R, head: &[u8]) -> io::Result<bool> {

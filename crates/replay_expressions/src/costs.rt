@@ -8,9 +8,8 @@ use std::io::Read;
 
 pub fn is_same<R: Read>(file: &mut R, head: &[u8]) -> io::Result<bool> {
     let mut bytes = [0u8; EXPRESSION_BYTES];
-    let length = records::read(file, pair_at(head, 6) as usize, &mut bytes)?;
-    if length > EXPRESSION_BYTES {
+    let Some(length) = records::read(file, pair_at(head, 6) as usize, &mut bytes)? else {
         return Ok(false);
-    }
-    Ok(agrees(head, &bytes[0..length]))
+    };
+    Ok(agrees(head, &bytes[..length]))
 }

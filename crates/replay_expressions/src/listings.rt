@@ -7,36 +7,20 @@ use replay::file;
 use std::io;
 use std::io::Read;
 
-// The rest of a form: its coefficients and its list, each as long as the slice that takes it.
-fn is_same_rest<R: Read>(
-    file: &mut R,
-    flags: usize,
-    head: &[u8],
-    bytes: &mut [u8],
-    masks: &mut [u8],
-    asked: Asked,
-) -> io::Result<bool> {
-    if !file::fills(file, bytes)? {
-        return Ok(false);
-    }
-    if !file::fills(file, masks)? {
-        return Ok(false);
-    }
-    Ok(agrees_form(flags, bytes, head, masks, asked))
-}
+// The bytes of the most coefficients, and of the most masks that a head can tell.
+const COEFFICIENT_BYTES: usize = 8192;
 
-pub fn is_same_form<R: Read>(file: &mut R, head: &[u8], asked: Asked) -> io::Result<bool> {
+const MASK_BYTES: usize = 131072;
+
+pub fn is_same<R: Read>(file: &mut R, head: &[u8], asked: Asked) -> io::Result<bool> {
     let flags = byte_at(head, 0) as usize;
-    let size = sizes::bytes(flags);
-    let mut bytes = [0u8; 8192];
-    let mut masks = [0u8; 131072];
     let length = 2 * (pair_at(head, 2) as usize);
-    is_same_rest(
-        file,
-        flags,
-        head,
-        &mut bytes[0..size],
-        &mut masks[0..length],
-        asked,
-    )
+    if length > MASK_BYTES {
+        return Ok(false);
+    }
+    let mut bytes = [0u8; COEFFICIENT_BYTES];
+    let mut masks = [0u8; MASK_BYTES];
+    let bytes = &mut bytes[..sizes::bytes(flags)];
+    let masks = &mut masks[..length];
+    Ok(file::fills_both(file, bytes, masks)? && agrees_form(flags, bytes, head, masks, asked))
 }

@@ -13,39 +13,40 @@ mod listings;
 mod readings;
 mod star_evaluations;
 
-use crate::files::Item;
+use crate::files::{
+    replay_cases, replay_choices, replay_costs, replay_listings, replay_readings, replay_stars,
+};
+use recorded_listings::Asked;
+use rules::FORM_FLAGS;
 use std::io;
 
 fn main(rt: HostRuntime) -> io::Result<()> {
-    files::replay(&rt, b"cases.bin", b"cases", Item::Case)?;
-    files::replay(&rt, b"readings.bin", b"readings", Item::Reading)?;
-    files::replay(&rt, b"stars.bin", b"evaluations for 64 stars", Item::Stars)?;
-    files::replay(&rt, b"costs.bin", b"expressions", Item::Costs)?;
-    files::replay(&rt, b"choices.bin", b"choices", Item::Choice)?;
-    files::replay(&rt, b"listings.bin", b"forms", Item::Listing)?;
-    files::replay(&rt, b"cases.bin", b"wrong numbers", Item::WrongNumber)?;
-    files::replay(&rt, b"cases.bin", b"wrong results", Item::WrongResult)?;
-    files::replay(
+    let asked = |flags, lacking| Asked { flags, lacking };
+    let right = asked(FORM_FLAGS + 1, 1);
+    replay_cases(&rt, "cases.bin", "cases", 0, 0)?;
+    replay_readings(&rt, "readings.bin")?;
+    replay_stars(&rt, "stars.bin")?;
+    replay_costs(&rt, "costs.bin")?;
+    replay_choices(&rt, "choices.bin")?;
+    replay_listings(&rt, "listings.bin", "forms", right)?;
+    replay_cases(&rt, "cases.bin", "wrong numbers", 1, 0)?;
+    replay_cases(&rt, "cases.bin", "wrong results", 0, 1)?;
+    replay_listings(
         &rt,
-        b"listings.bin",
-        b"refusals of 16 flags",
-        Item::WrongFlags,
+        "listings.bin",
+        "refusals of 16 flags",
+        asked(FORM_FLAGS, 1),
     )?;
-    files::replay(
+    replay_listings(
         &rt,
-        b"listings.bin",
-        b"refusals of enough room",
-        Item::WrongRoom,
+        "listings.bin",
+        "refusals of enough room",
+        asked(FORM_FLAGS + 1, 0),
     )?;
-    files::replay(&rt, b"wrong_cases.bin", b"cases", Item::Case)?;
-    files::replay(&rt, b"wrong_readings.bin", b"readings", Item::Reading)?;
-    files::replay(
-        &rt,
-        b"wrong_stars.bin",
-        b"evaluations for 64 stars",
-        Item::Stars,
-    )?;
-    files::replay(&rt, b"wrong_costs.bin", b"expressions", Item::Costs)?;
-    files::replay(&rt, b"wrong_choices.bin", b"choices", Item::Choice)?;
-    files::replay(&rt, b"wrong_listings.bin", b"forms", Item::Listing)
+    replay_cases(&rt, "wrong_cases.bin", "cases", 0, 0)?;
+    replay_readings(&rt, "wrong_readings.bin")?;
+    replay_stars(&rt, "wrong_stars.bin")?;
+    replay_costs(&rt, "wrong_costs.bin")?;
+    replay_choices(&rt, "wrong_choices.bin")?;
+    replay_listings(&rt, "wrong_listings.bin", "forms", right)
 }

@@ -9,12 +9,12 @@ mod writings;
 use std::io;
 
 fn main(rt: HostRuntime) -> io::Result<()> {
-    readings::replay(&rt, b"full_small.bin")?;
-    readings::replay(&rt, b"full_samples.bin")?;
-    readings::replay(&rt, b"cuts.bin")?;
-    readings::replay(&rt, b"changes.bin")?;
-    readings::replay(&rt, b"edges.bin")?;
-    writings::replay(&rt, b"writings.bin")?;
-    readings::replay(&rt, b"wrong_readings.bin")?;
-    writings::replay(&rt, b"wrong_writings.bin")
+    readings::replay(&rt, "full_small.bin")?;
+    readings::replay(&rt, "full_samples.bin")?;
+    readings::replay(&rt, "cuts.bin")?;
+    readings::replay(&rt, "changes.bin")?;
+    readings::replay(&rt, "edges.bin")?;
+    writings::replay(&rt, "writings.bin")?;
+    readings::replay(&rt, "wrong_readings.bin")?;
+    writings::replay(&rt, "wrong_writings.bin")
 }

@@ -4,20 +4,7 @@
 
 use replay::named;
 use std::io;
-use std::rt::Files;
-
-fn show_all<R: Files + Print + Eprint>(rt: &R, names: &[u8]) -> io::Result<()> {
-    let mut start = 0;
-    while start < names.len() {
-        let mut opened = named::open(rt, names, start)?;
-        printing::run(&mut opened, &mut io::writer(rt))?;
-        start = named::next(names, start);
-    }
-    Ok(())
-}
 
 fn main(rt: HostRuntime) -> io::Result<()> {
-    let mut names = [0u8; 4096];
-    let length = named::list(&rt, &mut names)?;
-    show_all(&rt, &names[..length])
+    named::run_each(&rt, |file| printing::run(file, &mut io::writer(&rt)))
 }

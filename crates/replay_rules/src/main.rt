@@ -11,9 +11,9 @@ mod refusals;
 use std::io;
 
 fn main(rt: HostRuntime) -> io::Result<()> {
-    files::replay_small(&rt, b"small.bin")?;
-    files::replay_samples(&rt, b"samples.bin")?;
+    files::replay_small(&rt, "small.bin")?;
+    files::replay_samples(&rt, "samples.bin")?;
     refusals::replay(&rt)?;
-    files::replay_small(&rt, b"wrong_small.bin")?;
-    files::replay_samples(&rt, b"wrong_samples.bin")
+    files::replay_small(&rt, "wrong_small.bin")?;
+    files::replay_samples(&rt, "wrong_samples.bin")
 }

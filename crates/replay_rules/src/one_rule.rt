@@ -18,12 +18,14 @@ pub fn is_same<R: Read>(
     answer: &[u8],
 ) -> io::Result<bool> {
     let mut left = [PATTERN; BYTE_LIMIT];
-    let length = records::read(file, pair_at(answer, 4) as usize, &mut left)?;
+    let Some(length) = records::read(file, pair_at(answer, 4) as usize, &mut left)? else {
+        return Ok(false);
+    };
     let settings = sizes::entries(flags);
     if settings > 64 {
         return Ok(false);
     }
     let mut table = [0u64; 64];
     set_table(&mut table, bits);
-    Ok(agrees(flags, &table[0..settings], answer, &left, length))
+    Ok(agrees(flags, &table[..settings], answer, &left, length))
 }

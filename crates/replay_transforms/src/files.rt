@@ -1,249 +1,111 @@
-// Reads the recorded files and replays each table of them. It rests on the comparison of one table.
-// `kind` says in a line which way was taken. What a file lacks, because it is cut short or damaged, counts as a difference.
-use comparison::outcome::{Outcome, given};
-use comparison::tally;
-use comparison::tally::Tally;
-use recorded::numbers::{byte_at, low_byte};
+// Reads the recorded files and replays each table of them, one way. It rests on the comparison of one table.
+// What a file lacks, because it is cut short or damaged, counts as a difference.
+use comparison::{Outcome, Tally};
+use recorded::numbers::byte_at;
 use recorded::sizes;
-use recorded_transforms::one_table::{Way, agrees};
-use replay::file;
+use recorded_transforms::one_table::Space;
+use replay::{file, items};
 use std::io;
 use std::io::Read;
 use std::rt::Files;
 
+// The bytes of the largest table.
+const TABLE_BYTES: usize = 8192;
+
+// Which call is replayed: the transform, or the way back.
+pub trait Way {
+    fn agrees(space: &mut Space, flags: usize, bits: &[u8], recorded: &[u8]) -> bool;
+}
+
+#[derive(Clone, Copy)]
+pub struct There;
+
+#[derive(Clone, Copy)]
+pub struct Back;
+
 // How many entries the call must tell: words there, and entries back, so that the one call cannot stand for the other.
-fn told(way: Way, flags: usize) -> Outcome {
-    match way {
-        Way::There => given(sizes::words(flags), 0, 0, 0),
-        Way::Back => given(sizes::entries(flags), 0, 0, 0),
+impl Way for There {
+    fn agrees(space: &mut Space, flags: usize, bits: &[u8], recorded: &[u8]) -> bool {
+        let expected = Outcome::Results([sizes::words(flags), 0, 0, 0]);
+        space.is_transformed(flags, bits, recorded, expected)
+    }
+}
+
+impl Way for Back {
+    fn agrees(space: &mut Space, flags: usize, bits: &[u8], recorded: &[u8]) -> bool {
+        let expected = Outcome::Results([sizes::entries(flags), 0, 0, 0]);
+        space.is_restored(flags, bits, recorded, expected)
     }
 }
 
 // One table of small.bin, whose bits are the digits of `number` and whose coefficients are the next two bytes.
-fn is_same_small<R: Read>(
-    way: Way,
+fn is_same_small<W: Way, R: Read>(
     file: &mut R,
+    space: &mut Space,
     flags: usize,
-    number: u64,
-    table: &mut [u64; 65536],
-    words: &mut [u64; 1027],
-    entries: &mut [u64; 65539],
-    left: &mut [u64; 65539],
+    number: u32,
 ) -> io::Result<bool> {
-    let bits = [low_byte(number), low_byte(number / 256)];
     let mut recorded = [0u8; 2];
-    if !file::fills(file, &mut recorded)? {
-        return Ok(false);
-    }
-    Ok(agrees(
-        way,
-        flags,
-        &bits,
-        &recorded,
-        table,
-        words,
-        entries,
-        left,
-        told(way, flags),
-    ))
+    let is_whole = file::fills(file, &mut recorded)?;
+    Ok(is_whole && W::agrees(space, flags, &number.to_le_bytes(), &recorded))
 }
 
 // The tables of `flags` flags, of which there are `count`.
-fn small_tables<R: Read>(
-    way: Way,
+fn count_small<W: Way, R: Read>(
     file: &mut R,
+    space: &mut Space,
     flags: usize,
-    count: u64,
-    before: Tally,
-    table: &mut [u64; 65536],
-    words: &mut [u64; 1027],
-    entries: &mut [u64; 65539],
-    left: &mut [u64; 65539],
-) -> io::Result<Tally> {
-    let mut tally = before;
-    let mut number = 0;
-    while number < count {
-        tally = tally::counted(
-            tally,
-            is_same_small(way, file, flags, number, table, words, entries, left)?,
-        );
-        number += 1;
+    count: u32,
+    tally: &mut Tally,
+) -> io::Result<()> {
+    for number in 0..count {
+        tally.count(is_same_small::<W, R>(file, space, flags, number)?);
+    }
+    Ok(())
+}
+
+fn small_tables<W: Way, R: Read>(file: &mut R) -> io::Result<Tally> {
+    let mut space = Space::new();
+    let mut tally = Tally::none();
+    for (flags, count) in [2, 4, 16, 256, 65536].into_iter().enumerate() {
+        count_small::<W, R>(file, &mut space, flags, count, &mut tally)?;
     }
     Ok(tally)
 }
 
-fn all_small_tables<R: Read>(way: Way, file: &mut R) -> io::Result<Tally> {
-    let mut table = [0u64; 65536];
-    let mut words = [0u64; 1027];
-    let mut entries = [0u64; 65539];
-    let mut left = [0u64; 65539];
-    let mut tally = tally::none();
-    tally = small_tables(
-        way,
-        file,
-        0,
-        2,
-        tally,
-        &mut table,
-        &mut words,
-        &mut entries,
-        &mut left,
-    )?;
-    tally = small_tables(
-        way,
-        file,
-        1,
-        4,
-        tally,
-        &mut table,
-        &mut words,
-        &mut entries,
-        &mut left,
-    )?;
-    tally = small_tables(
-        way,
-        file,
-        2,
-        16,
-        tally,
-        &mut table,
-        &mut words,
-        &mut entries,
-        &mut left,
-    )?;
-    tally = small_tables(
-        way,
-        file,
-        3,
-        256,
-        tally,
-        &mut table,
-        &mut words,
-        &mut entries,
-        &mut left,
-    )?;
-    small_tables(
-        way,
-        file,
-        4,
-        65536,
-        tally,
-        &mut table,
-        &mut words,
-        &mut entries,
-        &mut left,
-    )
-}
-
-pub fn replay_small<R: Files + Print + Eprint>(
-    rt: &R,
-    path: &[u8],
-    kind: &[u8],
-    way: Way,
-) -> io::Result<()> {
-    let mut opened = file::open(rt, path);
-    let tally = all_small_tables(way, &mut opened)?;
-    file::close(rt, opened, path, kind, tally)
-}
-
-// The rest of a sample: the table's bits and the coefficients, each as long as the slice that takes them.
-fn is_same_rest<R: Read>(
-    way: Way,
+// A sample, after its flag count: the table's bits and the coefficients.
+fn is_same_sample<W: Way, R: Read>(
     file: &mut R,
+    space: &mut Space,
     flags: usize,
-    bits: &mut [u8],
-    recorded: &mut [u8],
-    table: &mut [u64; 65536],
-    words: &mut [u64; 1027],
-    entries: &mut [u64; 65539],
-    left: &mut [u64; 65539],
 ) -> io::Result<bool> {
-    if !file::fills(file, bits)? {
-        return Ok(false);
-    }
-    if !file::fills(file, recorded)? {
-        return Ok(false);
-    }
-    Ok(agrees(
-        way,
-        flags,
-        bits,
-        recorded,
-        table,
-        words,
-        entries,
-        left,
-        told(way, flags),
-    ))
-}
-
-// A sample's head is its flag count.
-fn is_same_sample<R: Read>(
-    way: Way,
-    file: &mut R,
-    head: &[u8],
-    table: &mut [u64; 65536],
-    words: &mut [u64; 1027],
-    entries: &mut [u64; 65539],
-    left: &mut [u64; 65539],
-) -> io::Result<bool> {
-    let flags = byte_at(head, 0) as usize;
     let size = sizes::bytes(flags);
-    if size > 8192 {
-        return Ok(false);
-    }
-    let mut bits = [0u8; 8192];
-    let mut recorded = [0u8; 8192];
-    is_same_rest(
-        way,
-        file,
-        flags,
-        &mut bits[0..size],
-        &mut recorded[0..size],
-        table,
-        words,
-        entries,
-        left,
-    )
+    let mut bits = [0u8; TABLE_BYTES];
+    let mut recorded = [0u8; TABLE_BYTES];
+    let bits = &mut bits[..size];
+    let recorded = &mut recorded[..size];
+    Ok(file::fills_both(file, bits, recorded)? && W::agrees(space, flags, bits, recorded))
 }
 
-// A proved loop has to end, and nothing says that a file does: the turns are more than any recorded file has samples.
-fn all_samples<R: Read>(way: Way, file: &mut R) -> io::Result<Tally> {
-    let mut table = [0u64; 65536];
-    let mut words = [0u64; 1027];
-    let mut entries = [0u64; 65539];
-    let mut left = [0u64; 65539];
-    let mut tally = tally::none();
-    let mut head = [0u8; 1];
-    let mut turns: u64 = 1000000;
-    while turns > 0 {
-        if !file::fills(file, &mut head)? {
-            return Ok(tally);
-        }
-        tally = tally::counted(
-            tally,
-            is_same_sample(
-                way,
-                file,
-                &head,
-                &mut table,
-                &mut words,
-                &mut entries,
-                &mut left,
-            )?,
-        );
-        turns -= 1;
-    }
-    Ok(tally)
+fn samples<W: Way, R: Read>(file: &mut R) -> io::Result<Tally> {
+    let mut space = Space::new();
+    items::compared::<1, R, _>(file, |file, head| {
+        is_same_sample::<W, R>(file, &mut space, usize::from(byte_at(head, 0)))
+    })
 }
 
-pub fn replay_samples<R: Files + Print + Eprint>(
+pub fn replay_small<W: Way, R: Files + Print + Eprint>(
     rt: &R,
-    path: &[u8],
-    kind: &[u8],
-    way: Way,
+    path: &str,
+    kind: &str,
 ) -> io::Result<()> {
-    let mut opened = file::open(rt, path);
-    let tally = all_samples(way, &mut opened)?;
-    file::close(rt, opened, path, kind, tally)
+    items::replay(rt, path, kind, |file| small_tables::<W, _>(file))
+}
+
+pub fn replay_samples<W: Way, R: Files + Print + Eprint>(
+    rt: &R,
+    path: &str,
+    kind: &str,
+) -> io::Result<()> {
+    items::replay(rt, path, kind, |file| samples::<W, _>(file))
 }

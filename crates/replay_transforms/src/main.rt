@@ -7,21 +7,22 @@
 mod files;
 mod refusals;
 
-use recorded_transforms::one_table::Way;
+use crate::files::{Back, There, Way, replay_samples, replay_small};
 use std::io;
 use std::rt::Files;
 
-fn replay<R: Files + Print + Eprint>(rt: &R, kind: &[u8], way: Way) -> io::Result<()> {
-    files::replay_small(rt, b"small.bin", kind, way)?;
-    files::replay_samples(rt, b"samples.bin", kind, way)?;
-    files::replay_samples(rt, b"sympy.bin", kind, way)?;
-    files::replay_samples(rt, b"printed.bin", kind, way)?;
-    files::replay_small(rt, b"wrong_small.bin", kind, way)?;
-    files::replay_samples(rt, b"wrong_samples.bin", kind, way)
+// `kind` says in a line which way was taken.
+fn replay<W: Way, R: Files + Print + Eprint>(rt: &R, kind: &str) -> io::Result<()> {
+    replay_small::<W, R>(rt, "small.bin", kind)?;
+    replay_samples::<W, R>(rt, "samples.bin", kind)?;
+    replay_samples::<W, R>(rt, "sympy.bin", kind)?;
+    replay_samples::<W, R>(rt, "printed.bin", kind)?;
+    replay_small::<W, R>(rt, "wrong_small.bin", kind)?;
+    replay_samples::<W, R>(rt, "wrong_samples.bin", kind)
 }
 
 fn main(rt: HostRuntime) -> io::Result<()> {
-    replay(&rt, b"tables", Way::There)?;
-    replay(&rt, b"tables back", Way::Back)?;
+    replay::<There, _>(&rt, "tables")?;
+    replay::<Back, _>(&rt, "tables back")?;
     refusals::replay(&rt)
 }

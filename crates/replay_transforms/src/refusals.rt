@@ -2,12 +2,38 @@
 // Where several rows of the table of refusals apply, the upper one counts. The same calls with a wrong number and with a wrong
 // place, and good calls as if they were refused, show that each call is made and compared. It rests on the comparison of the
 // two calls.
-use comparison::outcome::{Outcome, given, refused};
-use comparison::tally;
-use comparison::tally::Tally;
+use comparison::{Outcome, Tally};
 use recorded_transforms::calls::{PATTERN, goes_back_to, transforms_to};
 use replay::line;
 use std::io;
+
+// A table's length, the room, the flag count, and the refusal's number and place.
+const TRANSFORMS: [(usize, usize, usize, u64, usize); 9] = [
+    (65536, 1024, 17, 1, 0),
+    (0, 0, 17, 1, 0),
+    (0, 1, 0, 2, 0),
+    (7, 1, 3, 2, 0),
+    (7, 0, 3, 2, 0),
+    (65535, 1024, 16, 2, 0),
+    (1, 0, 0, 5, 1),
+    (128, 1, 7, 5, 2),
+    (65536, 1023, 16, 5, 1024),
+];
+
+// An equal word for each coefficient word, their count, the room, the flag count, and the refusal's number and place.
+const WAYS_BACK: [(u64, usize, usize, usize, u64, usize); 11] = [
+    (1, 1024, 65536, 17, 1, 0),
+    (1, 0, 0, 17, 1, 0),
+    (1, 0, 1, 0, 3, 0),
+    (1, 1, 128, 7, 3, 0),
+    (1, 1023, 65536, 16, 3, 0),
+    (2, 1, 1, 0, 4, 0),
+    (256, 1, 8, 3, 4, 0),
+    (0x8000_0000_0000_0000, 1, 0, 5, 4, 0),
+    (1, 1, 0, 0, 5, 1),
+    (255, 1, 7, 3, 5, 8),
+    (1, 1024, 65535, 16, 5, 65536),
+];
 
 // The transform of a table of `length` entries into a buffer of `room` words.
 fn transform(length: usize, room: usize, flags: usize, expected: Outcome) -> bool {
@@ -44,74 +70,40 @@ fn way_back(word: u64, length: usize, room: usize, flags: usize, expected: Outco
 }
 
 // `number` and `place` are 0, or 1 to make every number, or every place, a wrong one.
-fn transforms(before: Tally, number: u64, place: usize) -> Tally {
-    let mut tally = before;
-    tally = tally::counted(
-        tally,
-        transform(65536, 1024, 17, refused(1 ^ number, place)),
-    );
-    tally = tally::counted(tally, transform(0, 0, 17, refused(1 ^ number, place)));
-    tally = tally::counted(tally, transform(0, 1, 0, refused(2 ^ number, place)));
-    tally = tally::counted(tally, transform(7, 1, 3, refused(2 ^ number, place)));
-    tally = tally::counted(tally, transform(7, 0, 3, refused(2 ^ number, place)));
-    tally = tally::counted(
-        tally,
-        transform(65535, 1024, 16, refused(2 ^ number, place)),
-    );
-    tally = tally::counted(tally, transform(1, 0, 0, refused(5 ^ number, 1 ^ place)));
-    tally = tally::counted(tally, transform(128, 1, 7, refused(5 ^ number, 2 ^ place)));
-    tally::counted(
-        tally,
-        transform(65536, 1023, 16, refused(5 ^ number, 1024 ^ place)),
-    )
+fn count_transforms(number: u64, place: usize, tally: &mut Tally) {
+    for (length, room, flags, row, at) in TRANSFORMS {
+        let expected = Outcome::refused(row ^ number, at ^ place);
+        tally.count(transform(length, room, flags, expected));
+    }
 }
 
-fn ways_back(before: Tally, number: u64, place: usize) -> Tally {
-    let mut tally = before;
-    tally = tally::counted(
-        tally,
-        way_back(1, 1024, 65536, 17, refused(1 ^ number, place)),
-    );
-    tally = tally::counted(tally, way_back(1, 0, 0, 17, refused(1 ^ number, place)));
-    tally = tally::counted(tally, way_back(1, 0, 1, 0, refused(3 ^ number, place)));
-    tally = tally::counted(tally, way_back(1, 1, 128, 7, refused(3 ^ number, place)));
-    tally = tally::counted(
-        tally,
-        way_back(1, 1023, 65536, 16, refused(3 ^ number, place)),
-    );
-    tally = tally::counted(tally, way_back(2, 1, 1, 0, refused(4 ^ number, place)));
-    tally = tally::counted(tally, way_back(256, 1, 8, 3, refused(4 ^ number, place)));
-    tally = tally::counted(
-        tally,
-        way_back(0x8000_0000_0000_0000, 1, 0, 5, refused(4 ^ number, place)),
-    );
-    tally = tally::counted(tally, way_back(1, 1, 0, 0, refused(5 ^ number, 1 ^ place)));
-    tally = tally::counted(
-        tally,
-        way_back(255, 1, 7, 3, refused(5 ^ number, 8 ^ place)),
-    );
-    tally::counted(
-        tally,
-        way_back(1, 1024, 65535, 16, refused(5 ^ number, 65536 ^ place)),
-    )
+fn count_ways_back(number: u64, place: usize, tally: &mut Tally) {
+    for (word, length, room, flags, row, at) in WAYS_BACK {
+        let expected = Outcome::refused(row ^ number, at ^ place);
+        tally.count(way_back(word, length, room, flags, expected));
+    }
+}
+
+fn all(number: u64, place: usize) -> Tally {
+    let mut tally = Tally::none();
+    count_transforms(number, place, &mut tally);
+    count_ways_back(number, place, &mut tally);
+    tally
 }
 
 // Good calls. The second of each two has the answer that it gets, so that only the buffer, which is not as before, differs.
 fn results() -> Tally {
-    let mut tally = tally::none();
-    tally = tally::counted(tally, transform(1, 1, 0, refused(5, 1)));
-    tally = tally::counted(tally, transform(1, 1, 0, given(1, 0, 0, 0)));
-    tally = tally::counted(tally, way_back(1, 1, 1, 0, refused(5, 1)));
-    tally::counted(tally, way_back(1, 1, 1, 0, given(1, 0, 0, 0)))
-}
-
-fn all(number: u64, place: usize) -> Tally {
-    ways_back(transforms(tally::none(), number, place), number, place)
+    let mut tally = Tally::none();
+    for expected in [Outcome::refused(5, 1), Outcome::Results([1, 0, 0, 0])] {
+        tally.count(transform(1, 1, 0, expected));
+        tally.count(way_back(1, 1, 1, 0, expected));
+    }
+    tally
 }
 
 pub fn replay<R: Print>(rt: &R) -> io::Result<()> {
-    line::print(rt, b"refusals", b"cases", all(0, 0))?;
-    line::print(rt, b"wrong numbers of refusals", b"cases", all(1, 0))?;
-    line::print(rt, b"wrong places of refusals", b"cases", all(0, 1))?;
-    line::print(rt, b"refusals of good calls", b"cases", results())
+    line::print(rt, "refusals", "cases", all(0, 0))?;
+    line::print(rt, "wrong numbers of refusals", "cases", all(1, 0))?;
+    line::print(rt, "wrong places of refusals", "cases", all(0, 1))?;
+    line::print(rt, "refusals of good calls", "cases", results())
 }

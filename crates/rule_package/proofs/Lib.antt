@@ -1,3 +1,4 @@
+pub mod LowFirst
 pub mod Answers
 pub mod BytesRows
 pub mod CallRows

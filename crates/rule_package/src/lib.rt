@@ -3,18 +3,22 @@
 // `laws`.
 #![tactic(auto)]
 
-ghost use Rattle.std.specs.Prelude.{◌≡◌, ◌≤◌};
-ghost use Rattle.rules.specs.Limits.{package_flags};
+ghost use Rattle.std.specs.Prelude.{◌≡◌};
 ghost use Rattle.rule_package.specs.Rule.{stray_bit};
+
+use rules::PACKAGE_FLAGS;
+use rules::flags::Flags;
+
+// A number of flags that a rule of a package may have.
+pub type PackageFlags = Flags<PACKAGE_FLAGS>;
 
 // The bytes of a rule before its expression.
 pub const HEADER_LENGTH: usize = 13;
 
 // Whether a table word has a bit that is no setting's.
-pub fn is_stray(flags: usize, table: u64) -> bool
-    requires { flags ≤ package_flags }
-    ensures { result ≡ stray_bit flags table }
+#[inline]
+pub fn is_stray(flags: PackageFlags, table: u64) -> bool
+    ensures { result ≡ stray_bit flags.count table }
 {
-    let words = [table];
-    packed_anf::is_stray(flags, &words)
+    packed_anf::is_stray(flags, &[table])
 }

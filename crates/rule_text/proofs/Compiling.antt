@@ -20,12 +20,15 @@ use Rattle.rules.specs.Machine.{made}
 use Rattle.rules.specs.Outcome.{gives}
 use Rattle.rules.specs.Text.{report}
 use Rattle.rules.specs.Tree.{cost, write}
-use Rattle.rules.specs.declared.Refusal.{Refusal}
+use Rattle.rules.specs.declared.flags.Flags.{Flags}
+use Rattle.rules.specs.declared.refusal.Refusal.{Refusal}
+use Rattle.text.specs.TableDigits.{values}
+use Rattle.text.proofs.TableDigits.{length-values}
 use Rattle.laws.proofs.cost.Fits.{length-compiled}
 use Rattle.laws.proofs.calls.Outcome.{gives_same}
 use Rattle.rules.specs.Outcome.{front}
 use Rattle.compiler.specs.Answers.{compilation_of}
-use Rattle.compiler.specs.declared.Compilation.{Compilation}
+use Rattle.std.specs.Prelude.{Result, Ok, Err}
 use Rattle.compiler.specs.declared.Expression.{Expression}
 use Rattle.rule_text.specs.inner.Parts.{shown, lines, Printable}
 use Rattle.rule_text.proofs.Report.{report-lines, made-compiled, printable, compile-gives}
@@ -33,23 +36,32 @@ use Rattle.rule_text.proofs.Report.{report-lines, made-compiled, printable, comp
 front-take : (k : ℕ) (l : List ℕ) → k ≤ length l → take k l ≡ front k l
 front-take k l h = map-upto-of k (λ i. get_or l i 0) (take k l) (length-take-le k l h) (λ i g. get_or-take k l i 0 g)
 
-pub record Answered (n : ℕ) (table after : List ℕ) (r : Compilation) : Type 0 where
+pub record Answered (n : ℕ) (table after : List ℕ) (r : Result Expression Refusal) : Type 0 where
   pub flags : n ≤ rule_flags
   pub complete : 2 ^ n ≤ length table
   pub room : length after ≡ byte_limit
   pub told : compilation_of after r ≡ compile n table byte_limit
 
-module _ {n : ℕ} {table after : List ℕ} {r : Compilation} (a : Answered n table after r) where
+pub answered : (f : Flags 6) (digits entries after : List ℕ) (r : Result Expression Refusal) → length digits ≡ 2 ^ f.count → entries ≡ values digits
+    → length after ≡ byte_limit → compilation_of after r ≡ compile f.count entries byte_limit → Answered f.count (values digits) after r
+answered f digits entries after r complete e room told = record {
+  flags = f.within;
+  complete = omega (arith, length-values digits);
+  room = room;
+  told = told ∙ ap (λ (l : List ℕ). compile f.count l byte_limit) e;
+}
+
+module _ {n : ℕ} {table after : List ℕ} {r : Result Expression Refusal} (a : Answered n table after r) where
   gave : compilation_of after r ≡ gives (compilation (compiled n table) (table_form n table))
   gave = a.told ∙ compile-gives n table a.flags a.complete
 
-  pub never-refused : (x : Refusal) → r ≡ Compilation.Refused x → ⊥
+  pub never-refused : (x : Refusal) → r ≡ Err x → ⊥
   never-refused x q =
       let f = sym (ap (compilation_of after) q) ∙ gave in
       let z : ◌≡◌ {A = ℕ} 0 1 = cc in
       omega arith
 
-  module _ (x : Expression) (q : r ≡ Compilation.Written x) where
+  module _ (x : Expression) (q : r ≡ Ok x) where
     parts : record { bytes = front x.bytes after; records = x.records; cost = x.cost; raw = x.raw }
         ≡ compilation (compiled n table) (table_form n table)
     parts = gives_same (sym (ap (compilation_of after) q) ∙ gave)

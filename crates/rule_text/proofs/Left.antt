@@ -1,14 +1,12 @@
--- What the walk that prints an expression's records keeps: the records from its place on are left to print, and what is printed before them is
--- written. It rests on the records of a tree (RecordList), on what is read at a place (expr, ReadRecord and Marks; laws, RecordAt) and on runs of
--- stores (bits, Stored).
---   gap-none, gap-some       == nothing before the first record, and a space before every other
+-- What the walk that prints an expression's records keeps: the records from its place on are left to print. It rests on the records of a tree
+-- (RecordList), and on what is read at a place (expr, ReadRecord and Marks; laws, RecordAt).
 --   after p ks               == the text of the records ks, of which the first begins at byte p
---   Left                     == what the walk keeps
+--   Left                     == what the walk keeps: behind `now` that text is still to come
 --   Next w r, left-next      == r is the next record; what is read over two operands is
 --   left-found               == where bytes are left none is refused
 --   left-start, left_step    == before the first record; one record more
---   left_end                 == where no bytes are left all is written
---   left-gap, left-kind      == there is room for the space and for the record's text
+--   left_end                 == where no bytes are left all is printed
+--   left-room                == the space and the record's text are a part of the whole text
 use mathlib.Core.List.{List, [], ◌∷◌, ◌++◌, append_assoc, append-nil}
 use mathlib.Core.Path.{◌≡◌, refl, sym, ap, subst, ◌∙◌}
 use Prim.Native.Nat.{ℕ, zero, suc, ◌+◌, ◌≤◌, ◌<◌}
@@ -28,19 +26,8 @@ use Rattle.laws.proofs.reading.WellFormed.{made-is}
 use Rattle.expr.specs.Inner.{record_over}
 use Rattle.expr.proofs.Marks.{over-two}
 use Rattle.expr.proofs.ReadRecord.{Read, found-read}
-use Rattle.bits.specs.Stored.{Room, Stored}
-use Rattle.bits.proofs.Stored.{stored-none, stored-append, stored-eq, room-eq, room-first, room_next}
 use Rattle.rule_text.specs.inner.Parts.{gap, kind_text, shown}
 use Rattle.rule_text.proofs.RecordList.{kinds, each, spaced, write-kinds, records-kinds, flags-kinds}
-
-pub gap-none : (p : ℕ) → p ≡ 0 → gap p ≡ []
-unfolding gap
-gap-none p e = ap gap e
-
-pub gap-some : (p : ℕ) → 0 < p → gap p ≡ 32 ∷ []
-unfolding gap ascii
-gap-some zero h = absurd (omega arith)
-gap-some (suc p) h = refl
 
 unfoldable pub after : ℕ → List Kind → List ℕ
 after zero ks = drop 1 (each spaced ks)
@@ -57,34 +44,29 @@ after_more p k ks zero h = absurd (omega arith)
 after_more zero k ks (suc q) h = refl
 after_more (suc p) k ks (suc q) h = refl
 
-pub record Left (n : ℕ) (s text : List ℕ) (at place next : ℕ) (out now : List ℕ) : Type 0 where
+pub record Left (n : ℕ) (s whole : List ℕ) (place : ℕ) (now : List ℕ) : Type 0 where
   pub rest : List Kind
   pub bytes : drop place s ≡ each bytes_of rest
   pub flags : Every (FlagBelow n) rest
-  pub done : List ℕ
-  pub put : Stored done at next out now
-  pub whole : done ++ after place rest ≡ text
+  pub comes : now ++ after place rest ≡ whole
 
-module _ (n : ℕ) (s : List ℕ) where
-  start_of : (t : Tree) → Below 256 s → made n s ≡ gives t → (at : ℕ) (out : List ℕ) → at ≤ length out → Left n s (records t) at 0 at out out
+module _ (n : ℕ) (s old : List ℕ) where
+  start_of : (t : Tree) → Below 256 s → made n s ≡ gives t → Left n s (old ++ records t) 0 old
   unfolding after
-  start_of t small e at out h =
+  start_of t small e =
       let w = made-is n s t small e in
       record {
         rest = kinds t;
         bytes = w.bytes ∙ write-kinds t;
         flags = flags-kinds n t w.flags;
-        done = [];
-        put = stored-none at out h;
-        whole = ap (drop 1) (sym (records-kinds t));
+        comes = ap (λ (l : List ℕ). old ++ drop 1 l) (sym (records-kinds t));
       }
 
-  pub left-start : WellFormed n s → Below 256 s → (at : ℕ) (out : List ℕ) → at ≤ length out → Left n s (shown (made n s)) at 0 at out out
+  pub left-start : WellFormed n s → Below 256 s → Left n s (old ++ shown (made n s)) 0 old
   unfolding WellFormed
-  left-start m small at out h =
-      subst (λ (l : List ℕ). Left n s l at 0 at out out) (sym (ap shown m.1)) (start_of m.0 small m.1 at out h)
+  left-start m small = subst (λ (l : List ℕ). Left n s (old ++ l) 0 old) (sym (ap shown m.1)) (start_of m.0 small m.1)
 
-module _ {n : ℕ} {s text : List ℕ} {at place next : ℕ} {out now : List ℕ} (w : Left n s text at place next out now) where
+module _ {n : ℕ} {s whole : List ℕ} {place : ℕ} {now : List ℕ} (w : Left n s whole place now) where
   -- the next record, and the records after it
   pub record Next (r : Found) : Type 0 where
     pub read : Read n s place r
@@ -113,40 +95,26 @@ module _ {n : ℕ} {s text : List ℕ} {at place next : ℕ} {out now : List ℕ
     pub left-found : {k p : ℕ} → ¬ (record_over n s 2 place ≡ refuses k p)
     left-found e = not-both (sym over ∙ e)
 
-  pub left_end : length s ≤ place → Stored text at next out now
-  left_end h = go w.rest w.bytes w.whole
+  pub left_end : length s ≤ place → now ≡ whole
+  left_end h = go w.rest w.bytes w.comes
     where
-      go : (ks : List Kind) → drop place s ≡ each bytes_of ks → w.done ++ after place ks ≡ text → Stored text at next out now
-      go [] b e = stored-eq (sym (append-nil w.done) ∙ ap (λ (l : List ℕ). w.done ++ l) (sym (after_none place)) ∙ e) w.put
+      go : (ks : List Kind) → drop place s ≡ each bytes_of ks → now ++ after place ks ≡ whole → now ≡ whole
+      go [] b e = sym (append-nil now) ∙ ap (λ (l : List ℕ). now ++ l) (sym (after_none place)) ∙ e
       go (k ∷ ks) b e = absurd (omega (arith, bytes_of-long k, length-drop place s, ap length b, length-append (bytes_of k) (each bytes_of ks)))
 
   module _ {r : Found} (d : Next r) where
-    -- what is left to print, from the next record on
-    text-left : after place w.rest ≡ gap place ++ kind_text r.kind ++ after r.next d.others
-    text-left = ap (after place) d.is ∙ after_more place r.kind d.others r.next d.read.after
+    comes_next : now ++ (gap place ++ kind_text r.kind ++ after r.next d.others) ≡ whole
+    comes_next = ap (λ (l : List ℕ). now ++ l) (sym (ap (after place) d.is ∙ after_more place r.kind d.others r.next d.read.after)) ∙ w.comes
 
-    room-left : Room text at out → Room (gap place ++ kind_text r.kind) next now
-    room-left h =
-        room-first (after r.next d.others)
-        (room-eq text-left (room_next (after place w.rest) (room-eq (sym w.whole) h) w.put))
+    pub left-room : length now + length (gap place) + length (kind_text r.kind) ≤ length whole
+    left-room = omega (arith, ap length comes_next, length-append {A = ℕ})
 
-    pub left-gap : Room text at out → Room (gap place) next now
-    left-gap h = room-first (kind_text r.kind) (room-left h)
-
-    module _ {mid : ℕ} {then : List ℕ} (p : Stored (gap place) next mid now then) where
-      pub left-kind : Room text at out → Room (kind_text r.kind) mid then
-      left-kind h = room_next (kind_text r.kind) (room-left h) p
-
-      pub left_step : {end : ℕ} {last : List ℕ} → Stored (kind_text r.kind) mid end then last → Left n s text at r.next end out last
-      left_step q = record {
-        rest = d.others;
-        bytes =
-            ap (λ (i : ℕ). drop i s) d.behind
-            ∙ drop_past s place (bytes_of r.kind) (each bytes_of d.others) (w.bytes ∙ ap (each bytes_of) d.is);
-        flags = (subst (Every (FlagBelow n)) d.is w.flags).1;
-        done = w.done ++ (gap place ++ kind_text r.kind);
-        put = stored-append w.put (stored-append p q);
-        whole =
-            append_assoc w.done (gap place ++ kind_text r.kind) (after r.next d.others)
-            ∙ ap (λ (l : List ℕ). w.done ++ l) (sym text-left) ∙ w.whole;
-      }
+    pub left_step : Left n s whole r.next (now ++ gap place ++ kind_text r.kind)
+    left_step = record {
+      rest = d.others;
+      bytes =
+          ap (λ (i : ℕ). drop i s) d.behind
+          ∙ drop_past s place (bytes_of r.kind) (each bytes_of d.others) (w.bytes ∙ ap (each bytes_of) d.is);
+      flags = (subst (Every (FlagBelow n)) d.is w.flags).1;
+      comes = simp append_assoc (simp append_assoc at comes_next);
+    }

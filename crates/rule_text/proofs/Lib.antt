@@ -1,7 +1,7 @@
 pub mod RecordList
 pub mod Left
-pub mod KindText
 pub mod Printed
 pub mod Report
 pub mod Compiling
 pub mod Example
+pub mod Lines

@@ -1,7 +1,7 @@
 -- What the printing program is to write, by cases: input that is no line of a rule, and input that is. It rests on the definitions of rules' Text and
 -- on the flag count of a line's digits (text, FlagCount).
---   line-empty, line-long, line-last == no line is empty, and a line ends in a newline
---   line-digits, line-all            == input that ends in a newline is a line where all before it are digits
+--   line-empty, line-last            == no line is empty, and a line ends in a newline
+--   line-digits                      == input that ends in a newline is a line where all before it are digits
 --   printed-other, printed-ragged    == no flag count, or no line: the complaint
 --   printed-rule                     == a line with its flag count: the report
 --   printed-front                    == the first 66 bytes decide
@@ -12,12 +12,10 @@ use mathlib.Core.Path.{◌≡◌, refl, sym, ap, ◌∙◌}
 use Prim.Native.Nat.{ℕ, ◌-◌, ◌<◌}
 use native.Mathlib.Decide.{dec_lt}
 use native.Mathlib.Omega.{arith}
-use lib.Dec.{eqb}
 use lib.ListN.{length, get_or, take}
 use lib.Seq.{take_all, length-take-le}
 use borrow.Author.Tests.{eq-eqb, ne_eqb}
 use Rattle.bits.specs.Range.{all}
-use Rattle.bits.proofs.Truth.{and-true-l}
 use Rattle.rules.specs.Ascii.{ascii}
 use Rattle.rules.specs.Text.{flags_of, is_line, printed_as, printed, report}
 use Rattle.text.specs.TableDigits.{is_digit, values}
@@ -33,11 +31,6 @@ unfolding is_line all
 line-empty [] e = refl
 line-empty (x ∷ s) e = absurd (omega arith)
 
-pub line-long : (s : List ℕ) → is_line s ≡ true → 0 < length s
-unfolding is_line all
-line-long [] e = let z : ◌≡◌ {A = ℕ} 0 1 = cc in omega arith
-line-long (x ∷ s) e = omega arith
-
 module _ (s : List ℕ) where
   pub line-last : (get_or s (length s - 1) 0 ≡ 10 → ⊥) → is_line s ≡ false
   unfolding is_line
@@ -46,10 +39,6 @@ module _ (s : List ℕ) where
   pub line-digits : get_or s (length s - 1) 0 ≡ 10 → is_line s ≡ all is_digit (take (length s - 1) s)
   unfolding is_line
   line-digits e = rw (eq-eqb (get_or s (length s - 1) 0) 10 e) (and-true (all is_digit (take (length s - 1) s)))
-
-  pub line-all : is_line s ≡ true → all is_digit (take (length s - 1) s) ≡ true
-  unfolding is_line
-  line-all e = and-true-l (all is_digit (take (length s - 1) s)) (eqb (get_or s (length s - 1) 0) 10) e
 
 -- ---- the output
 

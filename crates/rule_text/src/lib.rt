@@ -2,70 +2,69 @@
 // compiler writes; it is printed as three lines. It rests on `compiler`, on the records of `expr` and on `text`.
 #![tactic(auto)]
 
-mod line;
-mod lines;
+mod records;
 
-ghost use Rattle.std.specs.Prelude.{true, ◌≡◌, ◌^◌, ◌≤◌, length, take};
+ghost use Rattle.std.specs.Prelude.{true, ◌≡◌, ◌^◌, length};
 ghost use Rattle.bits.specs.Range.{all};
 ghost use Rattle.rules.specs.Ascii.{ascii};
-ghost use Rattle.rules.specs.Limits.{rule_flags};
 ghost use Rattle.rules.specs.Machine.{made};
 ghost use Rattle.rules.specs.Text.{report, printed};
 ghost use Rattle.text.specs.TableDigits.{is_digit, values};
-ghost use Rattle.text.specs.Page.{page_bytes, Shows};
+ghost use Rattle.text.specs.Page.{Shows};
 ghost use Rattle.rule_text.specs.inner.Parts.{shown, lines, Printable};
 
-use compiler::Compilation;
-use rules::BYTE_LIMIT;
-use text::table::Size;
-use text::{PAGE_BYTES, Page};
+use rules::{BYTE_LIMIT, RuleFlags};
+use text::Page;
 
 // The page for input that is no line of a rule.
+#[tactic(auto, unfolding(rules::specs::Ascii::ascii))]
 fn bad_line() -> Page
     ensures { Shows (ascii "bad line\n") result }
 {
-    text::page_of(b"bad line\n")
+    text::page_of("bad line\n")
 }
 
 // The page of a rule whose expression and costs are these.
-fn rule_page(flags: usize, expression: &[u8], cost: usize, raw: usize) -> Page
-    requires { Printable flags expression.now cost raw }
-    ensures { Shows (lines flags (shown (made flags expression.now)) cost raw) result }
+#[tactic(auto, unfolding(rules::specs::Ascii::ascii, crate::specs::inner::Parts::lines))]
+fn rule_page(flags: RuleFlags, expression: &[u8], cost: usize, raw: usize) -> Page
+    requires { Printable flags.count expression.now cost raw }
+    ensures { Shows (lines flags.count (shown (made flags.count expression.now)) cost raw) result }
 {
-    let mut bytes = [0u8; PAGE_BYTES];
-    let count = lines::put_lines(flags, expression, cost, raw, &mut bytes);
-    Page { bytes, count }
+    let mut page = Page::new();
+    text::push_number(&mut page, "flags ", flags.count);
+    page.push_str("\n");
+    records::push_records(&mut page, flags, expression);
+    text::push_number(&mut page, "\ncost ", cost);
+    text::push_number(&mut page, " raw ", raw);
+    page.push_str("\n");
+    page
 }
 
 // The page of the rule whose table is these digits. The compiler refuses no complete table of up to six flags.
-fn table_page(flags: usize, digits: &[u8]) -> Page
-    requires { (flags ≤ rule_flags) × (length digits.now ≡ 2 ^ flags) × (all is_digit digits.now ≡ true) }
-    ensures { Shows (report flags (values digits.now)) result }
+fn table_page(flags: RuleFlags, digits: &[u8]) -> Page
+    requires { (length digits.now ≡ 2 ^ flags.count) × (all is_digit digits.now ≡ true) }
+    ensures { Shows (report flags.count (values digits.now)) result }
 {
-    let count = digits.len();
-    let mut table = [0u64; 64];
-    text::table::entries(digits, &mut table);
+    let table = text::table::entries(digits);
     let mut expression = [0u8; BYTE_LIMIT];
-    let answer = compiler::build_anf_expr(flags, &table[..count], &mut expression);
-    let Compilation::Written(rule) = answer else {
+    let Ok(rule) = compiler::build_anf_expr(flags.count, &table, &mut expression) else {
         return bad_line();
     };
-    let bytes = rule.bytes;
-    rule_page(flags, &expression[..bytes], rule.cost, rule.raw)
+    rule_page(flags, &expression[..rule.bytes], rule.cost, rule.raw)
 }
 
-// The output for the whole input.
+// The output for the whole input: a line is digits and then a newline.
 pub fn print_rule(input: &[u8]) -> Page
-    ensures count_le_page_bytes { (result.count ≤ page_bytes) × (take result.count result.bytes ≡ printed input.now) }
-    ensures bytes_len { length result.bytes ≡ page_bytes }
+    ensures { Shows (printed input.now) result }
 {
-    if !line::is_line(input) {
-        return bad_line();
-    }
-    let count = input.len() - 1;
-    let size = text::table::flag_count(count);
-    let Size::Flags(flags) = size else {
+    let [digits @ .., b'\n'] = input else {
         return bad_line();
     };
-    table_page(flags, &input[..count])
+    if !text::table::all_digits(digits) {
+        return bad_line();
+    }
+    match text::table::flag_count(digits.len()) {
+        Some(flags) => table_page(flags, digits),
+        None => bad_line(),
+    }
 }

@@ -1,6 +1,7 @@
 pub mod Ascii
 pub mod Limits
 pub mod Outcome
+pub mod Refusal
 pub mod Table
 pub mod Coefficient
 pub mod Polynomial

@@ -7,33 +7,34 @@
 --   meets-found, meets-passed            == two masks of a word share no flag: the lowest and one of the others, or else two of the others
 use mathlib.Core.Bool.{Bool, true, false, ◌&&◌, ◌||◌, and-true, and-false, false≢true}
 use mathlib.Core.List.{List, [], ◌∷◌, map}
-use mathlib.Core.Path.{◌≡◌, refl, sym, ap, ap₂, ◌∙◌}
+use mathlib.Core.Path.{◌≡◌, refl, sym, ap, ap₂, subst, ◌∙◌}
 use mathlib.Mathlib.Data.Bool.Basic.{eq-false_of_not-eq-true}
 use Prim.Native.Nat.{ℕ, ◌-◌, ◌^◌, ◌≤◌, ◌<◌}
-use native.Mathlib.Nat.{lt_of_le_of_lt}
 use native.Mathlib.Omega.{arith}
-use lib.Bits.{bit_and, and_le_l}
-use lib.Count.{ones, count_trailing_zeros}
+use lib.Bits.{bit_and}
+use lib.Count.{ones}
 use lib.Dec.{ltb, leb, eqb}
 use lib.ListN.{length, length-map}
 use borrow.Author.Tests.{eqb-true, eq-eqb, ne_eqb, lt-ltb, le-ltb, le-leb, lt-leb}
 use Rattle.bits.specs.Bit.{bit, within}
-use Rattle.bits.specs.Range.{keep, any, mem}
+use Rattle.bits.specs.Range.{keep, any, mem, Ascending}
 use Rattle.bits.specs.Sum.{union}
 use Rattle.bits.specs.Word.{places}
 use Rattle.bits.proofs.Truth.{and_intro, and-implied}
 use Rattle.bits.proofs.Mask.{within-and-l, within-and-r, ones_pos}
 use Rattle.bits.proofs.Range.{mem-head, mem-tail, any-keep, any-ext, any-map, any-mem}
 use Rattle.bits.proofs.Disjoint.{within-not, disjoint-sub}
-use Rattle.bits.proofs.Lowest.{trailing_lt, clear_above, ones-clear}
-use Rattle.bits.proofs.Sets.{mem-bit, any-bit}
-use Rattle.bits.proofs.Word.{places-lt, ones-places, places-lowest}
+use Rattle.bits.proofs.Lowest.{ones-clear}
+use Rattle.bits.proofs.Sets.{any-bit}
+use Rattle.bits.proofs.Word.{ascending-places, places-lt, ones-places}
+use Rattle.bits.proofs.Ascending.{after-mem}
 use Rattle.rules.specs.Cleanup.{meets, covered, stripped, is_cube}
 use Rattle.rules.specs.Monomial.{monomials}
 use Rattle.laws.proofs.form.Covered.{covered-within, covered-occurs}
 use Rattle.laws.proofs.form.Family.{mem-family}
 use Rattle.mask_words.specs.Lookup.{subset_word}
 use Rattle.mask_words.proofs.Entries.{bit-subsets}
+use Rattle.mask_words.proofs.Yielded.{yielded-lt}
 
 -- ---- intersections of two monomials
 
@@ -122,32 +123,24 @@ module _ (l : List ℕ) (c v : ℕ) (e : places 64 v ≡ stripped c l) (h : v < 
 
 -- ---- words
 
--- the lowest mask of a word v, the word without it, and the word of the masks that share no flag with it
-module _ (v : ℕ) (p : 0 < v) (h : v < 2 ^ 64) (others : ℕ) (table : others ≡ subset_word (63 - count_trailing_zeros 64 v)) where
-  abbrev rest : ℕ
-  rest = bit_and v (v - 1)
+-- the first mask m of a word v, the word r of those after it, and the word of the masks that share no flag with it
+module _ (v m r : ℕ) (e : places 64 v ≡ m ∷ places 64 r) (h : r < 2 ^ 64) (others : ℕ) (table : others ≡ subset_word (63 - m)) where
+  bit-others : (b : ℕ) → mem b (places 64 r) ≡ true → bit others b ≡ eqb (bit_and m b) 0
+  bit-others b i =
+      let up = after-mem m (places 64 r) b (subst Ascending e (ascending-places 64 v)) i in
+      ap (λ (x : ℕ). bit x b) table ∙ bit-subsets (63 - m) b
+      ∙ mem-family b (63 - m) ∙ ap (λ (x : Bool). x && within b (63 - m)) (lt-ltb 0 b (omega arith))
+      ∙ within-not 6 m b (yielded-lt v m (places 64 r) e) (places-lt 64 r b i)
 
-  small : rest < 2 ^ 64
-  small = lt_of_le_of_lt (and_le_l v (v - 1)) h
-
-  bit-others : (b : ℕ) → mem b (places 64 rest) ≡ true → bit others b ≡ eqb (bit_and (count_trailing_zeros 64 v) b) 0
-  bit-others b e =
-      let t = count_trailing_zeros 64 v in
-      let up = clear_above 64 v p h b (sym (mem-bit 64 rest b small) ∙ e) in
-      ap (λ (x : ℕ). bit x b) table ∙ bit-subsets (63 - t) b
-      ∙ mem-family b (63 - t) ∙ ap (λ (x : Bool). x && within b (63 - t)) (lt-ltb 0 b (omega arith))
-      ∙ within-not 6 t b (trailing_lt 64 v p h) (places-lt 64 rest b e)
-
-  meets-lowest : meets (places 64 v) 0 ≡ (ltb 0 (bit_and rest others) || meets (places 64 rest) 0)
+  meets-first : meets (places 64 v) 0 ≡ (ltb 0 (bit_and r others) || meets (places 64 r) 0)
   unfolding meets
-  meets-lowest =
-      ap (λ (l : List ℕ). meets l 0) (places-lowest 64 v p h)
-      ∙ ap (λ (b : Bool). b || meets (places 64 rest) 0)
-      (any-ext (λ b. eqb (bit_and (count_trailing_zeros 64 v) b) 0) (bit others) (places 64 rest) (λ b e. sym (bit-others b e))
-      ∙ any-bit 64 rest others small)
+  meets-first =
+      ap (λ (l : List ℕ). meets l 0) e
+      ∙ ap (λ (b : Bool). b || meets (places 64 r) 0)
+      (any-ext (λ b. eqb (bit_and m b) 0) (bit others) (places 64 r) (λ b i. sym (bit-others b i)) ∙ any-bit 64 r others h)
 
-  pub meets-found : 0 < bit_and rest others → meets (places 64 v) 0 ≡ true
-  meets-found l = meets-lowest ∙ ap (λ (b : Bool). b || meets (places 64 rest) 0) (lt-ltb 0 (bit_and rest others) l)
+  pub meets-found : 0 < bit_and r others → meets (places 64 v) 0 ≡ true
+  meets-found l = meets-first ∙ ap (λ (b : Bool). b || meets (places 64 r) 0) (lt-ltb 0 (bit_and r others) l)
 
-  pub meets-passed : bit_and rest others ≡ 0 → meets (places 64 v) 0 ≡ meets (places 64 rest) 0
-  meets-passed e = meets-lowest ∙ ap (λ (b : Bool). b || meets (places 64 rest) 0) (le-ltb 0 (bit_and rest others) (omega arith))
+  pub meets-passed : bit_and r others ≡ 0 → meets (places 64 v) 0 ≡ meets (places 64 r) 0
+  meets-passed z = meets-first ∙ ap (λ (b : Bool). b || meets (places 64 r) 0) (le-ltb 0 (bit_and r others) (omega arith))

@@ -2,15 +2,13 @@
 -- specs/Family.
 --   positive-none, positive-some      == what `positive` makes of 0, and of a number above 0
 --   none-positive, some-positive      == where it is none the number is 0, and where it is some number that is the number, above 0
---   family-none, family-of            == so of an answer of the search for a family
 --   family_of-injective                == answers that mean the same are the same
 use mathlib.Core.Option.{none, some}
-use mathlib.Core.Path.{◌≡◌, refl, sym, ap, ◌∙◌}
+use mathlib.Core.Path.{◌≡◌, refl}
+use Rattle.std.specs.Prelude.{Option, Some, None}
 use Prim.Native.Nat.{ℕ, zero, suc, ◌<◌}
 use native.Mathlib.Omega.{arith}
 use Rattle.search.specs.Family.{positive, family_of}
-use Rattle.search.specs.declared.Family.{Family}
-use Rattle.search.specs.declared.Family.TheVariants.{Of, None}
 
 pub positive-none : (n : ℕ) → n ≡ 0 → none ≡ positive n
 unfolding positive
@@ -32,15 +30,8 @@ unfolding positive
 some-positive m zero e = let z : ◌≡◌ {A = ℕ} 0 1 = cc in absurd (omega arith)
 some-positive m (suc n) e = let same : m ≡ suc n = cc in (omega arith, same)
 
-module _ (f : Family) (n : ℕ) (e : family_of f ≡ positive n) where
-  pub family-none : f ≡ None → n ≡ 0
-  family-none q = none-positive n (ap family_of (sym q) ∙ e)
-
-  pub family-of : (m : ℕ) → f ≡ Of m → (0 < m) × (m ≡ n)
-  family-of m q = some-positive m n (ap family_of (sym q) ∙ e)
-
-pub family_of-injective : (f g : Family) → family_of f ≡ family_of g → f ≡ g
-family_of-injective (Of m) (Of n) e = cc
-family_of-injective (Of m) None e = cc
-family_of-injective None (Of n) e = cc
+pub family_of-injective : (f g : Option ℕ) → family_of f ≡ family_of g → f ≡ g
+family_of-injective (Some m) (Some n) e = cc
+family_of-injective (Some m) None e = cc
+family_of-injective None (Some n) e = cc
 family_of-injective None None e = refl

@@ -2,14 +2,13 @@
 --   positive n      == n where it is above 0, else none
 --   family_of f      == the mask of the answer f, or none
 use Rattle.std.proofs.Math.Option.{Option, none, some}
-use Rattle.std.specs.Prelude.{ℕ, zero, suc}
-use Rattle.search.specs.declared.Family.{Family}
-use Rattle.search.specs.declared.Family.TheVariants.{Of, None}
+use Rattle.std.specs.Prelude.{ℕ, zero, suc, Some, None}
+use Rattle.std.specs.Prelude as code
 
 unfoldable pub positive : ℕ → Option ℕ
 positive zero = none
 positive (suc n) = some (suc n)
 
-abbrev pub family_of : Family → Option ℕ
-family_of (Of m) = some m
+abbrev pub family_of : code.Option ℕ → Option ℕ
+family_of (Some m) = some m
 family_of None = none

@@ -2,24 +2,17 @@
 // candidate cube. It rests on `form` and `mask_words`.
 #![tactic(auto)]
 
-ghost use Rattle.std.specs.Prelude.{◌≡◌, ℕ, suc, ◌-◌, ◌%◌, ◌^◌, ◌<◌, leb, length};
+ghost use Rattle.std.specs.Prelude.{◌≡◌, ℕ, suc, ◌-◌, ◌%◌, ◌<◌, leb, length};
 ghost use Rattle.bits.specs.Range.{from, keep};
 ghost use Rattle.bits.specs.Word.{places};
 ghost use Rattle.rules.specs.Cleanup as paper;
 ghost use Rattle.form.specs.Masks.{masks};
-ghost use Rattle.mask_words.specs.Lookup.{mask_count, subset_word, lookup_words};
+ghost use Rattle.mask_words.specs.Lookup.{mask_count, subset_word};
 ghost use Rattle.search.specs.Family.{family_of, positive};
 ghost use Rattle.search.specs.Inner.{chosen, Having, Reached};
 
 use form::Form;
-use mask_words::Lookup;
-
-// The mask of the partial OR's family, where there is one.
-#[derive(Clone, Copy)]
-pub enum Family {
-    Of(usize),
-    None,
-}
+use mask_words::{Lookup, Ones};
 
 // Sets of masks: those that at least one monomial contains, and those that at least two contain.
 #[derive(Clone, Copy)]
@@ -30,22 +23,18 @@ struct Contained {
 
 // The best family of the partial OR. Only masks of single flags that occur can have all their subsets, and more flags save more; the mask 0 has no
 // family, so it stands for none so far.
-pub fn best_family(form: Form, lookup: &Lookup) -> Family
-    requires { lookup.now ≡ lookup_words }
+pub fn best_family(form: Form, lookup: &Lookup) -> Option<usize>
     ensures { family_of result ≡ positive (paper.best_family (masks form)) }
 {
     let monomials = form.word & !1;
-    let mut left = monomials & mask_words::subsets(form.singles(), lookup);
     let mut best = 0;
-    while left != 0 {
-        let mask = u64::trailing_zeros(left) as usize;
-        best = better_family(best, mask, monomials, mask_words::subsets(mask, lookup));
-        left = left & (left - 1);
+    for mask in Ones::of(monomials & lookup.subsets(form.singles())) {
+        best = better_family(best, mask, monomials, lookup.subsets(mask));
     }
     if best == 0 {
-        return Family::None;
+        return None;
     }
-    Family::Of(best)
+    Some(best)
 }
 
 // The mask where its nonempty subsets are among the monomials, fewer than all of them, and it has more flags than the best so far.
@@ -73,28 +62,24 @@ fn better_family(best: usize, mask: usize, monomials: u64, subsets: u64) -> usiz
 pub fn shared_cubes(form: Form) -> Form
     ensures { masks result ≡ keep (λ c. leb 2 (length (paper.covered c (masks form)))) (from 1 (mask_count - 1)) }
 {
-    let words = mask_words::flag_words();
     let mut found = Contained {
         once: form.word & !1,
         twice: 0,
     };
-    found = without_flag(found, words[0], 1);
-    found = without_flag(found, words[1], 2);
-    found = without_flag(found, words[2], 4);
-    found = without_flag(found, words[3], 8);
-    found = without_flag(found, words[4], 16);
-    found = without_flag(found, words[5], 32);
+    for (flag, having) in mask_words::flag_words().iter().enumerate() {
+        found = without_flag(found, *having, flag);
+    }
     let word = found.twice & !1;
     Form { word }
 }
 
-// One flag more that a monomial may have beside the mask it contains. `having` is the word of the masks that have the flag, `shift` the flag as a
-// mask.
-fn without_flag(found: Contained, having: u64, shift: usize) -> Contained
-    requires { shift < 64 }
-    ensures { (w k : ℕ) → shift ≡ 2 ^ k → Having having k → Reached w k found.once found.twice
-        → Reached w (suc k) result.once result.twice }
+// One flag more that a monomial may have beside the mask it contains. `having` is the word of the masks that have the flag.
+#[inline]
+fn without_flag(found: Contained, having: u64, flag: usize) -> Contained
+    requires { flag < 6 }
+    ensures { (w : ℕ) → Having having flag → Reached w flag found.once found.twice → Reached w (suc flag) result.once result.twice }
 {
+    let shift: usize = 1 << flag;
     let once = (found.once & having) >> shift;
     let twice = (found.twice & having) >> shift;
     Contained {
@@ -105,7 +90,7 @@ fn without_flag(found: Contained, having: u64, shift: usize) -> Contained
 
 // Whether a cube is a candidate: at least two monomials contain it, and it is a single flag or the intersection of two monomials.
 pub fn is_cube(form: Form, cube: usize, lookup: &Lookup) -> bool
-    requires { (lookup.now ≡ lookup_words) × (0 < cube) × (cube < mask_count) }
+    requires { (0 < cube) × (cube < mask_count) }
     ensures { result ≡ paper.is_cube (masks form) cube }
 {
     let inner = form.stripped(cube, lookup);
@@ -124,14 +109,11 @@ pub fn is_cube(form: Form, cube: usize, lookup: &Lookup) -> bool
 
 // Whether two of the stripped masks have no flag in common.
 fn has_disjoint(stripped: u64, lookup: &Lookup) -> bool
-    requires { lookup.now ≡ lookup_words }
     ensures { result ≡ paper.meets (places 64 stripped) 0 }
 {
-    let mut left = stripped;
-    while left != 0 {
-        let mask = u64::trailing_zeros(left) as usize;
-        left = left & (left - 1);
-        if left & mask_words::subsets(63 - mask, lookup) != 0 {
+    let mut left = Ones::of(stripped);
+    while let Some(mask) = left.next() {
+        if left.word() & lookup.subsets(63 - mask) != 0 {
             return true;
         }
     }

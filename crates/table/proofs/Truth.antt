@@ -7,14 +7,13 @@
 --   form-entries         == and the table of a list of entries has the form of that list
 --   form-word            == the masks of the transformed word, cut to the settings
 --   apart-word           == the settings at which two words differ
---   apart_none, apart-at == there is none where the words agree, and the lowest is the first
+--   first-given          == the first of a walk's places is the first difference
 use mathlib.Core.Bool.{Bool}
-use mathlib.Core.List.{List}
-use mathlib.Core.Option.{none, some}
+use mathlib.Core.List.{List, [], ◌∷◌}
+use Rattle.std.specs.Prelude.{Option, Some, None, MatchOption}
 use mathlib.Core.Path.{◌≡◌, sym, ap, ◌∙◌}
 use Prim.Native.Nat.{ℕ, ◌%◌, ◌^◌, ◌≤◌, ◌<◌}
 use lib.Bits.{bit_xor}
-use lib.Count.{count_trailing_zeros}
 use lib.Pow.{pow_mono}
 use borrow.Author.Tests.{ltb-true}
 use Rattle.bits.specs.Bit.{◌⊕◌, bit}
@@ -22,18 +21,18 @@ use Rattle.bits.specs.Range.{keep}
 use Rattle.bits.specs.Word.{places}
 use Rattle.bits.proofs.Bit.{bit-xor}
 use Rattle.bits.proofs.Chosen.{places-chosen, places-mod}
-use Rattle.bits.proofs.Places.{places-zero}
 use Rattle.bits.proofs.Range.{keep-ext, mem-upto}
-use Rattle.bits.proofs.Word.{bit-word-keep, places-lowest}
+use Rattle.bits.proofs.Word.{bit-word-keep}
 use Rattle.rules.specs.Calls.{table_form}
 use Rattle.rules.specs.Coefficient.{coefficient}
+use Rattle.rules.specs.declared.flags.Flags.{Flags}
 use Rattle.rules.specs.Limits.{rule_flags}
 use Rattle.rules.specs.Monomial.{form}
 use Rattle.rules.specs.Table.{entry, settings}
 use Rattle.laws.proofs.transform.Mobius.{coefficient-ext}
 use Rattle.anf_transform.specs.inner.Flag.{in_word}
 use Rattle.anf_transform.proofs.InWord.{in_word-form}
-use Rattle.table.specs.Truth.{truth, table_of, first}
+use Rattle.table.specs.Truth.{truth, table_of, first, difference_of}
 use Rattle.table.specs.declared.Table.{Table}
 
 -- ---- the values at the settings
@@ -42,20 +41,23 @@ module _ (n : ℕ) where
   pub keep-settings : (p q : ℕ → Bool) → ((s : ℕ) → s < 2 ^ n → p s ≡ q s) → keep p (settings n) ≡ keep q (settings n)
   keep-settings p q h = keep-ext p q (settings n) (λ s m. h s (ltb-true s (2 ^ n) (sym (mem-upto (2 ^ n) s) ∙ m)))
 
-  pub truth-table_of : (f : ℕ → Bool) (s : ℕ) → s < 2 ^ n → truth (table_of n f) s ≡ f s
-  truth-table_of f s h = bit-word-keep (2 ^ n) f s h
-
   pub form-ext : (f g : ℕ → Bool) → ((s : ℕ) → s < 2 ^ n → f s ≡ g s) → form n (coefficient n f) ≡ form n (coefficient n g)
   unfolding form
   form-ext f g h = keep-settings (coefficient n f) (coefficient n g) (λ m l. coefficient-ext n f g m h)
 
-  pub form-table_of : (f : ℕ → Bool) → form n (coefficient n (truth (table_of n f))) ≡ form n (coefficient n f)
-  form-table_of f = form-ext (truth (table_of n f)) f (truth-table_of f)
+module _ (n : Flags 6) where
+  pub truth-table_of : (f : ℕ → Bool) (s : ℕ) → s < 2 ^ n.count → truth (table_of n f) s ≡ f s
+  truth-table_of f s h = bit-word-keep (2 ^ n.count) f s h
 
-  pub form-entries : (table : List ℕ) (t : Table) → t ≡ table_of n (entry table) → form n (coefficient n (truth t)) ≡ table_form n table
+  pub form-table_of : (f : ℕ → Bool) → form n.count (coefficient n.count (truth (table_of n f))) ≡ form n.count (coefficient n.count f)
+  form-table_of f = form-ext n.count (truth (table_of n f)) f (truth-table_of f)
+
+  pub form-entries : (table : List ℕ) (t : Table) → t ≡ table_of n (entry table)
+      → form n.count (coefficient n.count (truth t)) ≡ table_form n.count table
   unfolding table_form
-  form-entries table t e = ap (λ (x : Table). form n (coefficient n (truth x))) e ∙ form-table_of (entry table)
+  form-entries table t e = ap (λ (x : Table). form n.count (coefficient n.count (truth x))) e ∙ form-table_of (entry table)
 
+module _ (n : ℕ) where
   -- ---- words
 
   module _ (few : n ≤ rule_flags) where
@@ -65,13 +67,11 @@ module _ (n : ℕ) where
 
     pub apart-word : (v w : ℕ) → places 64 (bit_xor v w % 2 ^ (2 ^ n)) ≡ keep (λ s. bit v s ⊕ bit w s) (settings n)
     unfolding places
-    apart-word v w = places-mod (bit_xor v w) (2 ^ n) 64 (pow_mono few) ∙ keep-settings _ _ (λ s l. bit-xor v w s)
+    apart-word v w = places-mod (bit_xor v w) (2 ^ n) 64 (pow_mono few) ∙ keep-settings n _ _ (λ s l. bit-xor v w s)
 
 -- ---- the first difference
 
-module _ (d : ℕ) (l : List ℕ) (e : places 64 d ≡ l) where
-  pub apart_none : d ≡ 0 → none ≡ first l
-  apart_none z = sym (ap first (sym e ∙ ap (places 64) z ∙ places-zero 64))
-
-  pub apart-at : 0 < d → d < 2 ^ 64 → some (count_trailing_zeros 64 d) ≡ first l
-  apart-at p h = sym (ap first (sym e ∙ places-lowest 64 d p h))
+-- what the walk over a word's ones gives first
+pub first-given : (o : Option ℕ) (l k : List ℕ) → MatchOption o ((l ≡ []) × (k ≡ [])) (λ x. l ≡ x ∷ k) → difference_of o ≡ first l
+first-given (Some x) l k e = sym (ap first e)
+first-given None l k e = sym (ap first e.0)

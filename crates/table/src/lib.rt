@@ -2,7 +2,7 @@
 // look at its word. It rests on `form`, `mask_words`, `anf_transform` and `packed_anf`.
 #![tactic(auto)]
 
-ghost use Rattle.std.specs.Prelude.{map, ◌≡◌, ◌*◌, ◌%◌, ◌≤◌, ◌<◌, ◌^◌, length};
+ghost use Rattle.std.specs.Prelude.{map, ◌≡◌, ◌*◌, ◌/◌, ◌%◌, ◌≤◌, ◌<◌, ◌^◌, length};
 ghost use Rattle.bits.specs.Bit.{◌⊕◌, bit};
 ghost use Rattle.bits.specs.Range.{keep, upto};
 ghost use Rattle.rules.specs.Coefficient.{coefficient};
@@ -15,49 +15,49 @@ ghost use Rattle.form.specs.Masks.{masks};
 ghost use Rattle.table.specs.Truth.{truth, table_of, difference_of, first};
 
 use form::Form;
+use mask_words::Ones;
+use rules::RuleFlags;
 
 #[derive(Clone, Copy)]
 pub struct Table {
+    pub flags: RuleFlags,
     pub bits: u64,
-}
-
-// The smallest setting at which a table and a word of values differ, if there is one.
-#[derive(Clone, Copy)]
-pub enum Difference {
-    At(usize),
-    None,
 }
 
 impl Table {
     // The table of a complete list of entries.
-    pub fn of_entries(flags: usize, entries: &[u64]) -> Table
-        requires { (flags ≤ rule_flags) × (2 ^ flags ≤ length entries.now) }
+    #[inline]
+    pub fn of_entries(flags: RuleFlags, entries: &[u64]) -> Table
+        requires { 2 ^ flags.count ≤ length entries.now }
         ensures { result ≡ table_of flags (entry entries.now) }
     {
-        let bits = anf_transform::pack::pack_word(entries, 0, packed_anf::setting_count(flags));
-        Table { bits }
+        let bits = anf_transform::pack::pack_word(&entries[..packed_anf::setting_count(flags)]);
+        Table { flags, bits }
     }
 
     // The table that a word holds, bit s for setting s.
-    pub fn of_word(word: u64) -> Table
-        ensures { result ≡ record { bits = word } }
+    #[inline]
+    pub fn of_word(flags: RuleFlags, word: u64) -> Table
+        ensures { result ≡ record { flags = flags; bits = word } }
     {
-        Table { bits: word }
+        Table { flags, bits: word }
     }
 
     // The table of a complete list of entries in bytes, eight an entry, low byte first: bit 0 of an entry is bit 0 of its low byte.
-    pub fn of_bytes(flags: usize, bytes: &[u8]) -> Table
-        requires { (flags ≤ rule_flags) × (8 * 2 ^ flags ≤ length bytes.now) }
+    pub fn of_bytes(flags: RuleFlags, bytes: &[u8]) -> Table
+        requires { 8 * 2 ^ flags.count ≤ length bytes.now }
         ensures { result ≡ table_of flags (entry (entries bytes.now)) }
     {
-        let mut bits = 0;
-        for setting in 0..packed_anf::setting_count(flags) {
-            bits = bits | (low_bit(bytes[8 * setting]) << setting);
-        }
-        Table { bits }
+        let set = |setting: usize| -> bool
+            requires { setting < length bytes.now / 8 }
+            ensures { result ≡ entry (entries bytes.entry.now) setting }
+        { bytes[8 * setting] & 1 == 1 };
+        let bits = mask_words::chosen(packed_anf::setting_count(flags), set);
+        Table { flags, bits }
     }
 
     // The table's bit at a setting.
+    #[inline]
     pub fn bit(self, setting: usize) -> bool
         requires { setting < 2 ^ rule_flags }
         ensures { result ≡ truth self setting }
@@ -66,28 +66,25 @@ impl Table {
     }
 
     // The form of the table's algebraic normal form.
-    pub fn form(self, flags: usize) -> Form
-        requires { flags ≤ rule_flags }
-        ensures { masks result ≡ monomial.form flags (coefficient flags (truth self)) }
+    #[inline]
+    pub fn form(self) -> Form
+        ensures { masks result ≡ monomial.form self.flags.count (coefficient self.flags.count (truth self)) }
     {
-        let word = low_settings(flags, anf_transform::inside::transform_word(self.bits));
+        let word = low_settings(self.flags, anf_transform::inside::transform_word(self.bits));
         Form { word }
     }
 
-    // Where the table differs from the values that a word has at the settings.
-    pub fn difference(self, flags: usize, values: u64) -> Difference
-        requires { flags ≤ rule_flags }
-        ensures { difference_of result ≡ first (keep (λ s. bit values s ⊕ truth self s) (settings flags)) }
+    // The smallest setting at which the table differs from the values that a word has at the settings, if there is one.
+    #[inline]
+    pub fn difference(self, values: u64) -> Option<usize>
+        ensures { difference_of result ≡ first (keep (λ s. bit values s ⊕ truth self s) (settings self.flags.count)) }
     {
-        let apart = low_settings(flags, values ^ self.bits);
-        if apart == 0 {
-            return Difference::None;
-        }
-        Difference::At(u64::trailing_zeros(apart) as usize)
+        Ones::of(low_settings(self.flags, values ^ self.bits)).next()
     }
 }
 
 // Each flag's values at all settings: bit s of word i is flag i of setting s.
+#[inline]
 pub fn flag_words() -> [u64; 6]
     ensures { result ≡ map flag_word (upto rule_flags) }
 {
@@ -95,19 +92,12 @@ pub fn flag_words() -> [u64; 6]
 }
 
 // The bits at the settings of that many flags.
-fn low_settings(flags: usize, word: u64) -> u64
-    requires { flags ≤ rule_flags }
-    ensures { result ≡ word % 2 ^ (2 ^ flags) }
+#[inline]
+fn low_settings(flags: RuleFlags, word: u64) -> u64
+    ensures { result ≡ word % 2 ^ (2 ^ flags.count) }
 {
-    if flags < 6 {
+    if flags.count < 6 {
         return packed_anf::low_bits(flags, word);
     }
     word
-}
-
-// Bit 0 of a byte, as 0 or 1.
-fn low_bit(byte: u8) -> u64
-    ensures { result ≡ byte % 2 }
-{
-    (byte & 1) as u64
 }

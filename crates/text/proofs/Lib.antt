@@ -3,3 +3,4 @@ pub mod Decimal
 pub mod TableDigits
 pub mod FlagCount
 pub mod Injective
+pub mod Places

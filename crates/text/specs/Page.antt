@@ -1,13 +1,12 @@
 -- What a page shows.
 --   page_bytes            == the bytes that a page has
---   Shows l page         == the page's text is l
-use Rattle.std.specs.Prelude.{List, ◌≡◌, ℕ, ◌≤◌, length, take}
-use Rattle.text.specs.declared.Page.{Page}
+--   Shows l page         == the page's text is l, and it is within the page
+use Rattle.std.specs.Prelude.{List, ◌≡◌, ℕ, ◌≤◌, length}
+use Rattle.arrayvec.specs.ArrayString.{ArrayString}
 
 abbrev pub page_bytes : ℕ
 page_bytes = 1400
 
-pub record Shows (l : List ℕ) (page : Page) : Type 0 where
-  pub within : page.count ≤ page_bytes
-  pub size : length page.bytes ≡ page_bytes
-  pub text : take page.count page.bytes ≡ l
+pub record Shows (l : List ℕ) (page : ArrayString) : Type 0 where
+  pub text : page.bytes ≡ l
+  pub within : length page.bytes ≤ page_bytes

@@ -7,16 +7,18 @@ use contract.Lifetimes.{Lfts}
 use denote.Triple.Clauses.{AtExit}
 use Rattle.compiler.proofs.build_anf_expr.Kinds as compiling
 use Rattle.compiler.proofs.build_anf_expr.Reads as compiler
-use Rattle.compiler.specs.declared.Compilation.{Compilation}
+use Rattle.compiler.specs.declared.Expression.{Expression}
 use Rattle.examiner.proofs.examine.Kinds as examining
 use Rattle.examiner.proofs.examine.Reads as examiner
-use Rattle.examiner.specs.declared.Examination.{Examination}
+use Rattle.rules.specs.declared.refusal.Refusal.{Refusal}
+use Rattle.std.specs.Prelude.{Result}
+use Prim.Native.Nat.{ℕ}
 use Rattle.third_demand.proofs.ThirdDemand.{Compiles, Examines}
 
-pub compiler-keeps : (κs : Lfts 2) (a : Dens κs compiling.ps) (r : Compilation) (e : AtExit (ended_of 2 compiling.ps compiling.r) κs)
+pub compiler-keeps : (κs : Lfts 2) (a : Dens κs compiling.ps) (r : Result Expression Refusal) (e : AtExit (ended_of 2 compiling.ps compiling.r) κs)
     → compiler.Learnt κs a r e → Compiles a.0 a.1.0.now a.1.1.0.now e.1.1.0.now r
 compiler-keeps κs a r e told = told
 
-pub examiner-keeps : (κs : Lfts 2) (a : Dens κs examining.ps) (r : Examination) (e : AtExit (ended_of 2 examining.ps examining.r) κs)
+pub examiner-keeps : (κs : Lfts 2) (a : Dens κs examining.ps) (r : Result ℕ Refusal) (e : AtExit (ended_of 2 examining.ps examining.r) κs)
     → examiner.Learnt κs a r e → Examines a.0 a.1.0.now a.1.1.0.now r
 examiner-keeps κs a r e told = told

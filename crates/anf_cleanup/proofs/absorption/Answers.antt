@@ -1,6 +1,6 @@
 -- `anf_cleanup::absorption` meets its contract: rule 4 has a candidate just where the form has two monomials and the first is a subset of the second
 -- (Rules), and then its cost is that of both products and of NO and AN, and 2 more with constant 1 (Plans).
-use mathlib.Core.Path.{◌≡◌, refl, ◌∙◌}
+use mathlib.Core.Path.{◌≡◌, ◌∙◌}
 use Prim.Native.Nat.{◌+◌, ◌*◌}
 use native.Mathlib.Omega.{arith}
 use Rattle.bits.proofs.Bit.{digit-le}
@@ -56,4 +56,4 @@ returns c =
     cost-absorption _ _ _ _ _ _ c.pair-pair.ensures c.if-first-second.false c.product_cost.ensures c.product_cost-2.ensures
     c.constant.ensures in
     let some = absorption-some _ _ _ c.pair-pair.ensures c.if-first-second.false in
-    improved-one _ _ _ _ _ _ c.whole.ensures candidate some refl tt _ _ some c.if-best-cost.false
+    improved-one _ _ _ _ _ _ c.whole.ensures candidate some tt _ _ some c.if-best-cost.false

@@ -16,19 +16,19 @@ pub overflow_sub-result : goal.overflow_sub-result
 overflow_sub-result c =
     let l = masks c.args.form in
     let candidate : Candidate l c.args.cube (stripped c.args.cube l) =
-    record { rises = ascending-masks c.args.form; nonzero = c.requires.1; test = c.requires.3; inner = refl } in
+    record { rises = ascending-masks c.args.form; nonzero = c.requires.0; test = c.requires.2; inner = refl } in
     omega (arith, c.covered_literals.ensures, gross-room _ _ _ candidate)
 
 pub overflow_sub-result-2 : goal.overflow_sub-result-2
 overflow_sub-result-2 c =
     let l = masks c.args.form in
     let candidate : Candidate l c.args.cube (stripped c.args.cube l) =
-    record { rises = ascending-masks c.args.form; nonzero = c.requires.1; test = c.requires.3; inner = refl } in
+    record { rises = ascending-masks c.args.form; nonzero = c.requires.0; test = c.requires.2; inner = refl } in
     omega (arith, c.covered_literals.ensures, c.product_cost.ensures, gross-room _ _ _ candidate)
 
 pub returns : goal.returns
 returns c =
     let l = masks c.args.form in
     let candidate : Candidate l c.args.cube (stripped c.args.cube l) =
-    record { rises = ascending-masks c.args.form; nonzero = c.requires.1; test = c.requires.3; inner = refl } in
+    record { rises = ascending-masks c.args.form; nonzero = c.requires.0; test = c.requires.2; inner = refl } in
     omega (arith, c.covered_literals.ensures, c.product_cost.ensures, gross-literals _ _ _ candidate)

@@ -1,35 +1,27 @@
--- `anf_form::raw_anf_cost` meets its contract: row by row (laws, Checked), and then the masks of the words are those of the form (Held).
-use mathlib.Core.Path.{sym, ap, ◌∙◌}
-use Prim.Native.Nat.{ℕ}
-use native.Mathlib.Omega.{arith}
+-- `anf_form::raw_anf_cost` meets its contract: past the rows of lent coefficients (packed_anf, Rows) the masks of the words are those of the form
+-- (Held).
+use Rattle.std.proofs.Common.{◌∙◌, ℕ, sym, ap, arith}
 use Rattle.rules.specs.Calls.{raw_costing}
 use Rattle.rules.specs.Form.{raw_cost}
+use Rattle.rules.specs.Limits.{rule_flags}
 use Rattle.rules.specs.Outcome.{Outcome, gives}
-use Rattle.laws.proofs.calls.Checked.{coefficients-flags, coefficients-short, coefficients-stray, coefficients-clean}
-use Rattle.anf_form.specs.Inner.{held}
-use Rattle.anf_form.proofs.Held.{word_count-most, held-form}
+use Rattle.packed_anf.proofs.Rows.{exit, past_coefficients}
+use Rattle.anf_form.proofs.Held.{word_count-most, held-lent}
 use Rattle.anf_form.proofs.raw_anf_cost.Goals as goal
 
-pub returns-then-flags-gt-RULE_FLAGS : goal.returns-then-flags-gt-RULE_FLAGS
+pub returns-in_err-coefficients : goal.returns-in_err-coefficients
 unfolding raw_costing
-returns-then-flags-gt-RULE_FLAGS c = sym (coefficients-flags 6 c.args.flags _ _ (omega arith))
-
-pub returns-then-coefficients-words : goal.returns-then-coefficients-words
-unfolding raw_costing
-returns-then-coefficients-words c = sym (coefficients-short 6 _ _ _ c.if-flags-gt-RULE_FLAGS.false (omega arith))
-
-pub returns-then-is_stray : goal.returns-then-is_stray
-unfolding raw_costing
-returns-then-is_stray c = sym (coefficients-stray 6 _ _ _ c.if-flags-gt-RULE_FLAGS.false (omega arith) (sym c.is_stray.ensures ∙ c.if-is_stray.true))
+returns-in_err-coefficients c = exit _ _ _ c.from_residual.ensures.1 ∙ past_coefficients rule_flags _ _ _ _ _ c.in_err-coefficients.ensures
 
 pub raw_cost-requires : goal.raw_cost-requires
-raw_cost-requires c = omega (arith, word_count-most c.args.flags (omega arith))
+raw_cost-requires c =
+    let a = c.in_ok-coefficients.coefficients in
+    omega (arith, a.all, word_count-most a.flags.count (omega arith))
 
 pub returns : goal.returns
 unfolding raw_costing
 returns c =
-    let ws = c.args.coefficients.now in
-    let clean = sym c.is_stray.ensures ∙ c.if-is_stray.false in
+    let a = c.in_ok-coefficients.coefficients in
     ap {B = Outcome ℕ} gives
-    (c.raw_cost.ensures ∙ ap (λ (k : ℕ). raw_cost (held k ws)) c.word_count-words.ensures ∙ ap raw_cost (sym (held-form ws _ clean)))
-    ∙ sym (coefficients-clean 6 _ _ _ c.if-flags-gt-RULE_FLAGS.false (omega arith) clean)
+    (c.raw_cost.ensures ∙ ap raw_cost (sym (held-lent rule_flags _ _ _ _ c.in_ok-coefficients.ensures a.all a.none_stray)))
+    ∙ past_coefficients rule_flags _ _ _ _ _ c.in_ok-coefficients.ensures

@@ -13,20 +13,20 @@ use Rattle.anf_transform.proofs.transform_words.Goals as goal
 
 pub between-requires : goal.between-requires
 between-requires c =
-    let e : c.args.flags ≡ 6 + (c.args.flags - 6) = omega arith in
-    (omega arith, c.inside.ensures.same ∙ c.requires.1 ∙ ap word_count e ∙ word_count-large (c.args.flags - 6))
+    let e : c.args.flags.count ≡ 6 + (c.args.flags.count - 6) = omega arith in
+    (omega arith, c.inside.ensures.same ∙ c.requires ∙ ap word_count e ∙ word_count-large (c.args.flags.count - 6))
 
 pub returns-then-flags-gt6 : goal.returns-then-flags-gt6
 returns-then-flags-gt6 c =
     let six : Holds (lowest 6 (packed c.args.words.now)) c.inside.new.words = holds-inside c.args.words.now c.inside.new.words c.inside.ensures in
     let ws = c.args.words.now in
-    let e : 6 + (c.args.flags - 6) ≡ c.args.flags = omega arith in
+    let e : 6 + (c.args.flags.count - 6) ≡ c.args.flags.count = omega arith in
     let h = rw e at (c.between.ensures.1 (packed ws) six) in
-    let l = c.between.ensures.0 ∙ c.inside.ensures.same ∙ c.requires.1 in
-    (l, holds-coefficient c.args.flags c.args.flags (packed ws) c.between.new.words (le_refl c.args.flags) l h)
+    let l = c.between.ensures.0 ∙ c.inside.ensures.same ∙ c.requires in
+    (l, holds-coefficient c.args.flags.count c.args.flags.count (packed ws) c.between.new.words (le_refl c.args.flags.count) l h)
 
 pub returns-else-flags-gt6 : goal.returns-else-flags-gt6
 returns-else-flags-gt6 c =
     let six : Holds (lowest 6 (packed c.args.words.now)) c.inside.new.words = holds-inside c.args.words.now c.inside.new.words c.inside.ensures in
-    let l = c.inside.ensures.same ∙ c.requires.1 in
-    (l, holds-coefficient c.args.flags 6 (packed c.args.words.now) c.inside.new.words c.if-flags-gt6.false l six)
+    let l = c.inside.ensures.same ∙ c.requires in
+    (l, holds-coefficient c.args.flags.count 6 (packed c.args.words.now) c.inside.new.words c.if-flags-gt6.false l six)

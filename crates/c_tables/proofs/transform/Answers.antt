@@ -1,27 +1,16 @@
--- `c_tables::transform` meets its contract: each arm names the transform's answer, whose promise says what it means. From the laws of
--- the answer (answer_block, Answered).
-use mathlib.Core.List.{[], ◌∷◌}
-use mathlib.Core.Path.{sym, ap}
-use Prim.Native.Nat.{ℕ}
+-- `c_tables::transform` meets its contract: the length of the buffer's front is the number that is stored. From the law of answers (answer_block,
+-- Answered).
+use Rattle.std.specs.Prelude.{◌≡◌, [], ◌∷◌, ℕ}
+use Rattle.std.proofs.Common.{rules}
+use mathlib.Core.Path.{sym, ap, ◌∙◌}
+use Rattle.rules.specs.Outcome.{front}
 use Rattle.laws.proofs.calls.Outcome.{length_front}
-use Rattle.anf_transform.specs.Answers.{filled_of}
-use Rattle.answer_block.proofs.Answered.{told-as, answer-gives, answer-refuses}
+use Rattle.answer_block.proofs.Answered.{answered}
 use Rattle.answer_block.specs.Numbers.{entries}
 use Rattle.c_tables.proofs.transform.Goals as goal
 
-pub returns-in-Entries : goal.returns-in-Entries
-returns-in-Entries c =
-    let r = c.one in
-    let call = c.compute_anf-filled in
-    let out = call.new.out in
-    let same = ap (λ (n : ℕ). n ∷ []) (sym (length_front c.in-Entries.words out)) in
-    let is = told-as (filled_of out) c.in-Entries.is call.ensures.answer in
-    record { lent = call.ensures.lent; answer = answer-gives entries _ is r.ensures.number r.ensures.answer same }
-
-pub returns-in-Refused : goal.returns-in-Refused
-returns-in-Refused c =
-    let r = c.refusal in
-    let call = c.compute_anf-filled in
-    let out = call.new.out in
-    let is = told-as (filled_of out) c.in-Refused.is call.ensures.answer in
-    record { lent = call.ensures.lent; answer = answer-refuses entries _ is r.ensures.number r.ensures.answer }
+pub returns-clause-answer : goal.returns-clause-answer
+returns-clause-answer c =
+    let out = c.compute_anf.new.out in
+    answered (λ k. front k out) entries _ _ _ _ _ c.compute_anf.ensures.answer c.map.ensures.cases c.answer.ensures
+    (λ k l p. let e : l ≡ k ∷ [] = search rules in e ∙ ap (λ (n : ℕ). n ∷ []) (sym (length_front k out)))

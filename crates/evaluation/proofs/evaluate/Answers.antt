@@ -1,31 +1,46 @@
 -- `evaluation::evaluate` meets its contract: its two tests are the rows 1 and 11, and `walk` answers the rest.
-use mathlib.Core.Path.{◌∙◌}
+use mathlib.Core.Path.{ap, ◌∙◌}
 use Prim.Native.Nat.{◌^◌, ◌≤◌, ◌<◌}
 use native.Mathlib.Omega.{arith}
 use borrow.Author.Tests.{lt-ltb, le-ltb, le-leb, lt-leb}
 use Rattle.bits.proofs.Shift.{one_shl}
+use Rattle.bits.proofs.Bit.{byte-digit}
 use Rattle.rules.specs.Calls.{evaluate}
-use Rattle.evaluation.specs.inner.OneSetting.{evaluated}
+use Rattle.rules.specs.Outcome.{gives}
+use Rattle.reader.proofs.Passed.{passed, passed-first, refused-first}
+use Rattle.evaluation.specs.Answers.{evaluation_of}
+use Rattle.evaluation.proofs.Evaluated.{evaluated-walked}
 use Rattle.evaluation.proofs.evaluate.Goals as goal
 
-pub returns-then-flags-gt-RULE_FLAGS : goal.returns-then-flags-gt-RULE_FLAGS
+pub returns-in_err-flags : goal.returns-in_err-flags
 unfolding evaluate
-returns-then-flags-gt-RULE_FLAGS c = rw (c.refused.ensures, lt-ltb _ _ c.if-flags-gt-RULE_FLAGS.true)
+returns-in_err-flags c = ap evaluation_of (passed c.from_residual.ensures.1) ∙ refused-first _ _ _ _ _ c.in_err-flags.ensures
 
 pub returns-then-flags-setting : goal.returns-then-flags-setting
 unfolding evaluate
 returns-then-flags-setting c =
     let a = c.args in
-    let h : 2 ^ a.flags ≤ a.setting = omega (arith, one_shl 64 a.flags (omega arith)) in
-    rw (c.refused-then-flags-setting.ensures, le-ltb _ _ c.if-flags-gt-RULE_FLAGS.false, le-leb _ _ h)
+    let (few, same) = passed-first _ _ _ _ c.in_ok-flags.ensures in
+    let flags = c.in_ok-flags.flags in
+    let h : 2 ^ flags.count ≤ a.setting = omega (arith, one_shl 64 flags.count (omega (arith, flags.within))) in
+    rw (c.at.ensures, few, ← same, le-leb _ _ h)
 
-pub walk-requires : goal.walk-requires
-walk-requires c =
-    let below : (let a = c.args in a.setting < 2 ^ a.flags) = omega (arith, one_shl 64 c.args.flags (omega arith)) in
-    (omega arith, below)
+pub returns-in_err-seen : goal.returns-in_err-seen
+unfolding evaluate
+returns-in_err-seen c =
+    let a = c.args in
+    let (few, same) = passed-first _ _ _ _ c.in_ok-flags.ensures in
+    let flags = c.in_ok-flags.flags in
+    let below : a.setting < 2 ^ flags.count = omega (arith, one_shl 64 flags.count (omega (arith, flags.within))) in
+    rw (few, ← same, lt-leb _ _ below)
+    (ap evaluation_of (passed c.from_residual-in_err-seen.ensures.1) ∙ evaluated-walked flags.count a.setting a.bytes.now c.in_err-seen.ensures)
 
 pub returns : goal.returns
-unfolding evaluate evaluated
+unfolding evaluate
 returns c =
-    let below : (let a = c.args in a.setting < 2 ^ a.flags) = omega (arith, one_shl 64 c.args.flags (omega arith)) in
-    c.walk.ensures ∙ rw (le-ltb _ _ c.if-flags-gt-RULE_FLAGS.false, lt-leb _ _ below)
+    let a = c.args in
+    let (few, same) = passed-first _ _ _ _ c.in_ok-flags.ensures in
+    let flags = c.in_ok-flags.flags in
+    let below : a.setting < 2 ^ flags.count = omega (arith, one_shl 64 flags.count (omega (arith, flags.within))) in
+    rw (few, ← same, lt-leb _ _ below)
+    (ap gives (byte-digit _) ∙ evaluated-walked flags.count a.setting a.bytes.now c.in_ok-seen.ensures)

@@ -1,48 +1,55 @@
 -- `examination_text::examine_rule` meets its contract: each of its answers is one law of Input.
-use mathlib.Core.List.{List}
-use mathlib.Core.Path.{sym, ◌∙◌}
-use Prim.Native.Nat.{ℕ}
-use lib.Seq.{length-take-le}
+use mathlib.Core.Path.{◌≡◌, sym, ◌∙◌}
+use native.Mathlib.Omega.{arith}
+use borrow.Author.Tests.{tests}
 use Rattle.rules.specs.Ascii.{ascii}
-use Rattle.text.proofs.Shown.{shows-eq, shows-told}
-use Rattle.examination_text.proofs.Input.{page-long, page-lines, lines-one, lines_more, lines_two}
+use Rattle.text.proofs.Shown.{shows-eq}
+use Rattle.examination_text.specs.Input.{not_lines, verdict_page}
+use Rattle.examination_text.proofs.Input.{page-long, page-lines, lines-none, lines-one, lines_two, lines-four, lines-more, lines-all, length-second}
 use Rattle.examination_text.proofs.examine_rule.Goals as goal
+use Rattle.examination_text.proofs.examine_rule.Goals.{in_default-via-in-Some+in-Some+in-Some+in_default}
+use Rattle.examination_text.proofs.examine_rule.Goals.{in_default-via-in-Some+in-Some+in_default, in_default-via-in-Some+in_default}
+use Rattle.examination_text.proofs.examine_rule.Goals.{in_default-via-in_default}
 
-pub returns-then-length-gt-LONGEST : goal.returns-then-length-gt-LONGEST
+pub returns-then-input-gt-LONGEST : goal.returns-then-input-gt-LONGEST
 unfolding ascii
-returns-then-length-gt-LONGEST c =
+returns-then-input-gt-LONGEST c = shows-eq (sym (page-long c.args.input.now c.if-input-gt-LONGEST.true)) c.page_of.ensures
+
+pub returns-in_default : goal.returns-in_default
+returns-in_default c =
     let s = c.args.input.now in
-    let both = shows-told (shows-eq (sym (page-long s c.if-length-gt-LONGEST.true)) c.page_of.ensures) in
-    record { count_le_page_bytes = both.0; bytes_len = both.1 }
+    let start = c.of-lines.ensures in
+    let other : verdict_page s ≡ not_lines = page-lines s c.if-input-gt-LONGEST.false ∙ elim c.in_default.branch [
+      | in_default-via-in_default w ↦ lines-none s start w.in_default.ensures.steps.0
+      | in_default-via-in-Some+in_default w ↦ let a = w.in_default in lines-one s start a.ensures.steps a.ensures'.steps.0
+      | in_default-via-in-Some+in-Some+in_default w ↦
+          let a = w.in_default in
+          lines_two s start a.ensures.steps a.ensures'.steps a.ensures''.steps.0
+      | in_default-via-in-Some+in-Some+in-Some+in_default w ↦
+          let a = w.in_default in
+          lines-four s start a.ensures.steps a.ensures'.steps a.ensures''.steps a.ensures'''.steps
+    ] in
+    shows-eq (sym other) c.not_lines.ensures
 
-pub returns-then-first-length : goal.returns-then-first-length
-returns-then-first-length c =
-    let input : List ℕ = c.args.input.now in
-    let s = input in
-    let both = shows-told
-    (shows-eq (sym (page-lines s c.if-length-gt-LONGEST.false ∙ lines-one c.until-first.ensures c.if-first-length.true)) c.not_lines.ensures) in
-    record { count_le_page_bytes = both.0; bytes_len = both.1 }
+pub returns-then-not-is_empty : goal.returns-then-not-is_empty
+returns-then-not-is_empty c =
+    let s = c.args.input.now in
+    let a = c.in-Some-Some-Some-None in
+    shows-eq
+    (sym (page-lines s c.if-input-gt-LONGEST.false
+    ∙ lines-more s c.of-lines.ensures a.ensures.steps a.ensures'.steps a.ensures''.steps a.ensures'''.steps.0 (λ e. omega (arith, tests, e))))
+    c.not_lines-then-not-is_empty.ensures
 
-pub returns-then-second-length : goal.returns-then-second-length
-returns-then-second-length c =
-    let input : List ℕ = c.args.input.now in
-    let both = shows-told
-    (shows-eq
-    (sym (page-lines input c.if-length-gt-LONGEST.false
-    ∙ lines_more c.until-first.ensures c.if-first-length.false c.until-second.ensures c.if-second-length.true))
-    c.not_lines-then-second-length.ensures) in
-    record { count_le_page_bytes = both.0; bytes_len = both.1 }
-
-pub slice_bounds-lines_page-end : goal.slice_bounds-lines_page-end
-slice_bounds-lines_page-end c =
-    let input : List ℕ = c.args.input.now in
-    sym (length-take-le c.until-first.result input c.until-first.ensures.within)
+pub lines_page-requires : goal.lines_page-requires
+lines_page-requires c =
+    let a = c.in-Some-Some-Some-None in
+    omega (arith, length-second c.args.input.now c.of-lines.ensures a.ensures.steps a.ensures'.steps)
 
 pub returns : goal.returns
 returns c =
-    let input : List ℕ = c.args.input.now in
-    let both = shows-told
-    (shows-eq (sym (page-lines input c.if-length-gt-LONGEST.false
-    ∙ lines_two c.until-first.ensures c.if-first-length.false c.until-second.ensures c.if-second-length.false))
-    c.lines_page.ensures) in
-    record { count_le_page_bytes = both.0; bytes_len = both.1 }
+    let s = c.args.input.now in
+    let a = c.in-Some-Some-Some-None in
+    shows-eq
+    (sym (page-lines s c.if-input-gt-LONGEST.false
+    ∙ lines-all s c.of-lines.ensures a.ensures.steps a.ensures'.steps a.ensures''.steps a.ensures'''.steps.0 (omega (arith, tests))))
+    c.lines_page.ensures

@@ -1,11 +1,6 @@
 -- `examination_text::lines_page` meets its contract: each of its three answers is one law of Input.
-use mathlib.Core.Bool.{true}
-use mathlib.Core.Option.{some}
-use mathlib.Core.Path.{◌≡◌, sym, ap, ◌∙◌}
-use lib.ListN.{length}
-use Rattle.bits.specs.Range.{all}
-use Rattle.rules.specs.Text.{flags_of}
-use Rattle.text.specs.TableDigits.{is_digit, size_of}
+use mathlib.Core.Path.{sym, ap, ◌∙◌}
+use Rattle.text.specs.TableDigits.{size_of}
 use Rattle.text.proofs.FlagCount.{flags-some}
 use Rattle.text.proofs.Shown.{shows-eq}
 use Rattle.examination_text.proofs.Input.{table_none, table-ragged, table-rule}
@@ -14,28 +9,21 @@ use Rattle.examination_text.proofs.lines_page.Goals as goal
 pub returns-in_default : goal.returns-in_default
 returns-in_default c =
     let a = c.args in
-    shows-eq
-    (sym (table_none a.digits.now a.line.now (sym c.flag_count-size.ensures ∙ ap size_of c.in_default.is)))
-    c.not_table.ensures
+    shows-eq (sym (table_none a.digits.now a.line.now (sym c.flag_count.ensures ∙ ap size_of c.in_default.is))) c.not_table.ensures
 
 pub returns-then-not-all_digits : goal.returns-then-not-all_digits
 returns-then-not-all_digits c =
-    let flags : flags_of (length c.args.digits.now) ≡ some c.in-Flags.flags = sym c.flag_count-size.ensures ∙ ap size_of c.in-Flags.is in
     let a = c.args in
-    shows-eq
-    (sym (table-ragged a.digits.now a.line.now _ flags (sym c.all_digits.ensures ∙ c.if-not-all_digits.true)))
+    let flags = sym c.flag_count.ensures ∙ ap size_of c.in-Some.is in
+    shows-eq (sym (table-ragged a.digits.now a.line.now _ flags (sym c.all_digits.ensures ∙ c.if-not-all_digits.true)))
     c.not_table-then-not-all_digits.ensures
 
 pub rule_page-requires : goal.rule_page-requires
 rule_page-requires c =
-    let flags : flags_of (length c.args.digits.now) ≡ some c.in-Flags.flags = sym c.flag_count-size.ensures ∙ ap size_of c.in-Flags.is in
-    let digits : all is_digit c.args.digits.now ≡ true = sym c.all_digits.ensures ∙ c.if-not-all_digits.false in
-    let f = flags-some _ _ flags in
-    (f.1, f.0, digits, c.requires)
+    ((flags-some _ _ (sym c.flag_count.ensures ∙ ap size_of c.in-Some.is)).0, sym c.all_digits.ensures ∙ c.if-not-all_digits.false, c.requires)
 
 pub returns : goal.returns
 returns c =
-    let flags : flags_of (length c.args.digits.now) ≡ some c.in-Flags.flags = sym c.flag_count-size.ensures ∙ ap size_of c.in-Flags.is in
-    let digits : all is_digit c.args.digits.now ≡ true = sym c.all_digits.ensures ∙ c.if-not-all_digits.false in
     let a = c.args in
-    shows-eq (sym (table-rule a.digits.now a.line.now _ flags digits)) c.rule_page.ensures
+    let flags = sym c.flag_count.ensures ∙ ap size_of c.in-Some.is in
+    shows-eq (sym (table-rule a.digits.now a.line.now _ flags (sym c.all_digits.ensures ∙ c.if-not-all_digits.false))) c.rule_page.ensures

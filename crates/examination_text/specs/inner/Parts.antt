@@ -1,20 +1,21 @@
 -- What the functions that take the input apart and write the verdict's words promise each other.
---   others b s r         == the parts behind place r, at which b or the end of s stands
---   Part b s from r      == from place `from` to r stands a part of s at b, and behind it the others
+--   rest_left b r        == the parts at b of the bytes r, where any are left
+--   parts_left p          == the parts that are still to come
 --   flag_name w i         == what is written for flag i at the setting w
-use Rattle.std.specs.Prelude.{true, false, List, [], ◌∷◌, ◌++◌, ◌≡◌, ℕ, ◌+◌, ◌-◌, ◌≤◌, ltb, length, take, drop}
+use Rattle.std.specs.Prelude.{true, false, List, [], ◌++◌, Option, Some, None, ℕ}
+use Rattle.std.specs.Borrow.{Bor}
 use Rattle.bits.specs.Bit.{bit}
 use Rattle.rules.specs.Ascii.{ascii}
 use Rattle.rules.specs.Text.{decimal}
 use Rattle.examination_text.specs.Notation.{split}
+use Rattle.examination_text.specs.declared.parts.Parts.{Parts}
 
-unfoldable pub others : ℕ → List ℕ → ℕ → List (List ℕ)
-others b s r = elim (ltb r (length s)) [ true ↦ split b (drop (r + 1) s) | false ↦ [] ]
+abbrev pub rest_left : ℕ → Option (Bor (List ℕ)) → List (List ℕ)
+rest_left b (Some s) = split b s.now
+rest_left b None = []
 
-pub record Part (b : ℕ) (s : List ℕ) (from r : ℕ) : Type 0 where
-  pub behind : from ≤ r
-  pub within : r ≤ length s
-  pub parts : split b (drop from s) ≡ take (r - from) (drop from s) ∷ others b s r
+abbrev pub parts_left : Parts → List (List ℕ)
+parts_left p = rest_left p.separator p.rest
 
 unfoldable pub flag_name : ℕ → ℕ → List ℕ
 flag_name w i = elim (bit w i) [ true ↦ ascii " " ++ decimal i | false ↦ [] ]

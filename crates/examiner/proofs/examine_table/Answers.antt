@@ -1,30 +1,19 @@
 -- `examiner::examine_table` meets its contract: the walk's answer with the six words of the flags, and the verdict on it, are the examination
 -- (Examined).
-use mathlib.Core.Path.{◌≡◌, sym, ap, ◌∙◌}
-use Rattle.rules.specs.Outcome.{Outcome, ◌then◌}
-use Rattle.lanes.specs.Answers.{walked_of}
-use Rattle.lanes.specs.declared.Seen.{Seen}
-use Rattle.lanes.specs.declared.Walked.{Walked}
+use mathlib.Core.Path.{ap, ◌∙◌}
+use Rattle.reader.proofs.Passed.{passed}
 use Rattle.table.specs.Truth.{truth}
-use Rattle.examiner.specs.Examined.{examine_truth}
-use Rattle.examiner.specs.Inner.{judgment}
+use Rattle.examiner.specs.Answers.{examination_of}
 use Rattle.examiner.proofs.Examined.{examine-walked}
 use Rattle.examiner.proofs.examine_table.Goals as goal
 
-pub returns-in-Values : goal.returns-in-Values
-returns-in-Values c =
-    let examined : (w : Walked) → c.walk.result ≡ w →
-    (let a = c.args in examine_truth a.flags (truth a.table) a.bytes.now ≡ (walked_of w then (λ v. judgment a.flags (truth a.table) v))) =
-    λ w e. let f = truth c.args.table in
-    examine-walked c.args.flags c.requires c.flag_words-words.result c.flag_words-words.ensures f c.args.bytes.now
-    ∙ ap (λ (o : Outcome Seen). o then (λ v. judgment c.args.flags f v)) (sym c.walk.ensures ∙ ap walked_of e) in
-    c.judge.ensures ∙ sym (examined _ c.in-Values.is)
+pub returns-in_err-walk : goal.returns-in_err-walk
+returns-in_err-walk c =
+    let t = c.args.table in
+    ap examination_of (passed c.from_residual.ensures.1)
+    ∙ examine-walked t.flags.count t.flags.within c.flag_words-words.ensures (truth t) c.args.bytes.now c.in_err-walk.ensures
 
-pub returns-in-Refused : goal.returns-in-Refused
-returns-in-Refused c =
-    let examined : (w : Walked) → c.walk.result ≡ w →
-    (let a = c.args in examine_truth a.flags (truth a.table) a.bytes.now ≡ (walked_of w then (λ v. judgment a.flags (truth a.table) v))) =
-    λ w e. let f = truth c.args.table in
-    examine-walked c.args.flags c.requires c.flag_words-words.result c.flag_words-words.ensures f c.args.bytes.now
-    ∙ ap (λ (o : Outcome Seen). o then (λ v. judgment c.args.flags f v)) (sym c.walk.ensures ∙ ap walked_of e) in
-    sym (examined _ c.in-Refused.is)
+pub returns : goal.returns
+returns c =
+    let t = c.args.table in
+    c.judge.ensures ∙ examine-walked t.flags.count t.flags.within c.flag_words-words.ensures (truth t) c.args.bytes.now c.in_ok-walk.ensures

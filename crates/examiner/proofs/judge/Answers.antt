@@ -1,35 +1,24 @@
--- `examiner::judge` meets its contract: the table answers the first setting that differs, and the raw cost of its form.
-use mathlib.Core.Option.{none}
-use mathlib.Core.Path.{◌≡◌, sym, ap, ◌∙◌}
-use Prim.Native.Nat.{ℕ}
-use Rattle.rules.specs.Coefficient.{coefficient}
+-- `examiner::judge` meets its contract: the table answers the first setting that differs, and the raw cost of its form. From the laws of Examined.
+use mathlib.Core.Path.{sym, ap, ◌∙◌}
 use Rattle.rules.specs.Form.{raw_cost}
-use Rattle.rules.specs.Monomial.{form}
-use Rattle.table.specs.Truth.{truth, difference_of}
-use Rattle.table.specs.declared.Difference.{Difference}
-use Rattle.table.specs.declared.Difference.TheVariants.{None}
-use Rattle.examiner.specs.Answers.{examination_of}
-use Rattle.examiner.specs.Inner.{verdict, judgment}
+use Rattle.table.specs.Truth.{truth}
+use Rattle.examiner.proofs.Examined.{judged-differs, judged-costly, judged-accepts}
 use Rattle.examiner.proofs.judge.Goals as goal
 
-pub returns-in-At : goal.returns-in-At
-unfolding verdict judgment
-returns-in-At c =
-    let judged : (d : Difference) → c.difference.result ≡ d →
-    (let a = c.args in judgment a.flags (truth a.table) a.seen ≡ verdict
-    (raw_cost (form a.flags (coefficient a.flags (truth a.table)))) a.seen.cost (difference_of d)) = λ d e. let a = c.args in
-    ap (verdict (raw_cost (form a.flags (coefficient a.flags (truth a.table)))) a.seen.cost)
-    (sym c.difference.ensures ∙ ap difference_of e) in
-    ap examination_of c.refused.ensures ∙ sym (judged _ c.in-At.is)
+pub returns-in-Some : goal.returns-in-Some
+returns-in-Some c =
+    let a = c.args in
+    rw c.at.ensures (sym (judged-differs a.table.flags.count (truth a.table) a.seen _ c.difference.ensures c.in-Some.is))
 
-pub returns-in-None : goal.returns-in-None
-unfolding judgment
-returns-in-None c =
-    let judged : (d : Difference) → c.difference.result ≡ d →
-    (let a = c.args in judgment a.flags (truth a.table) a.seen ≡ verdict
-    (raw_cost (form a.flags (coefficient a.flags (truth a.table)))) a.seen.cost (difference_of d)) = λ d e. let a = c.args in
-    ap (verdict (raw_cost (form a.flags (coefficient a.flags (truth a.table)))) a.seen.cost)
-    (sym c.difference.ensures ∙ ap difference_of e) in
-    c.judge_cost.ensures
-    ∙ ap (λ (r : ℕ). verdict r c.args.seen.cost none) (c.raw_cost.ensures ∙ ap raw_cost c.form.ensures)
-    ∙ sym (judged None c.in-None.is)
+pub returns-then-raw_cost-seen : goal.returns-then-raw_cost-seen
+returns-then-raw_cost-seen c =
+    let a = c.args in
+    let raw = c.raw_cost.ensures ∙ ap raw_cost c.form.ensures in
+    rw c.at-then-raw_cost-seen.ensures
+    (sym (judged-costly a.table.flags.count (truth a.table) a.seen c.difference.ensures c.in_default.is raw c.if-raw_cost-seen.true))
+
+pub returns : goal.returns
+returns c =
+    let a = c.args in
+    let raw = c.raw_cost.ensures ∙ ap raw_cost c.form.ensures in
+    sym (judged-accepts a.table.flags.count (truth a.table) a.seen c.difference.ensures c.in_default.is raw c.if-raw_cost-seen.false)

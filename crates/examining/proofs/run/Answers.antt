@@ -6,4 +6,4 @@ use Rattle.examining.proofs.run.Goals as goal
 
 pub returns : goal.returns
 returns g c =
-    answered verdict_page 4096 page-front _ _ _ _ _ _ c.in_ok-length.ensures.front c.examine_rule-page.ensures.count_le_page_bytes.1 c.write.ensures
+    answered verdict_page 4096 page-front _ _ _ _ _ _ c.in_ok-length.ensures.front c.examine_rule.ensures.text c.write.ensures

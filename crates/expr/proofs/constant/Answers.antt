@@ -12,7 +12,7 @@ unfolding constant_at loaded
 returns-then-left-lt3 c =
     let a = c.args in
     let h : length a.bytes.now < a.place + 3 = omega arith in
-    rw (c.refused.ensures, lt-ltb _ _ h)
+    rw (c.at.ensures, lt-ltb _ _ h)
 
 pub returns-in-0-to-1 : goal.returns-in-0-to-1
 unfolding constant_at loaded
@@ -27,4 +27,4 @@ unfolding constant_at loaded
 returns-in_default c =
     let a = c.args in
     let h : a.place + 3 ≤ length a.bytes.now = omega arith in
-    rw (c.refused-in_default.ensures, le-ltb _ _ h, lt-leb _ _ c.in_default.if-payload-lt2-own.false)
+    rw (c.at-in_default.ensures, le-ltb _ _ h, lt-leb _ _ c.in_default.if-payload-lt2-own.false)

@@ -13,7 +13,7 @@ unfolding flag_at loaded
 returns-then-left-lt3 c =
     let a = c.args in
     let h : length a.bytes.now < a.place + 3 = omega arith in
-    rw (c.refused.ensures, lt-ltb _ _ h)
+    rw (c.at.ensures, lt-ltb _ _ h)
 
 pub overflow_cast-payload : goal.overflow_cast-payload
 overflow_cast-payload c = omega (arith, c.type_inv.bytes (c.args.place + 2))
@@ -31,4 +31,4 @@ unfolding flag_at loaded
 returns c =
     let a = c.args in
     let h : a.place + 3 ≤ length a.bytes.now = omega arith in
-    rw (c.refused-2.ensures, le-ltb _ _ h, le-ltb _ _ c.if-payload-flags.false)
+    rw (c.at-2.ensures, le-ltb _ _ h, le-ltb _ _ c.if-payload-flags.false)

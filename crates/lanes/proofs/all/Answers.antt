@@ -4,5 +4,5 @@ use Rattle.lanes.proofs.all.Goals as goal
 pub returns-then-b : goal.returns-then-b
 returns-then-b c = rw c.if-b.true
 
-pub returns : goal.returns
-returns c = rw c.if-b.false
+pub returns-else-b : goal.returns-else-b
+returns-else-b c = rw c.if-b.false

@@ -11,18 +11,18 @@ use Rattle.packed_anf.proofs.Stray.{stray-none, stray-first}
 use Rattle.packed_anf.proofs.is_stray.Goals as goal
 
 pub returns-then-flags-gt5 : goal.returns-then-flags-gt5
-returns-then-flags-gt5 c =
+returns-then-flags-gt5 g c =
     let a = c.args in
-    sym (stray-none a.flags a.words.now (search rules))
+    sym (stray-none a.flags.count a.words.now (search rules))
 
 pub bounds-words-0 : goal.bounds-words-0
-bounds-words-0 c = omega (arith, word_count-pos c.args.flags)
+bounds-words-0 g c = omega (arith, word_count-pos c.args.flags.count)
 
 pub bounds-words-0-2 : goal.bounds-words-0-2
-bounds-words-0-2 c = omega (arith, word_count-pos c.args.flags)
+bounds-words-0-2 g c = omega (arith, word_count-pos c.args.flags.count)
 
 pub returns : goal.returns
-returns c =
+returns g c =
     let a = c.args in
     ap (λ (k : ℕ). ltb k (get_or a.words.now 0 0)) c.low_bits.ensures
-    ∙ sym (stray-first a.flags a.words.now (omega arith) (c.type_inv.words 0).fits)
+    ∙ sym (stray-first a.flags.count a.words.now (omega arith) (c.type_inv.words 0).fits)

@@ -15,6 +15,6 @@ returns c =
     let ws = c.args.words.now in
     subst (Raised ws m)
     (sym
-    (ap₂ (λ (j k : ℕ). set ws j (bit_or (get_or ws j 0) (1 * 2 ^ k % 2 ^ 64))) c.word_index-i.ensures c.bit_index.ensures
+    (ap₂ (λ (j k : ℕ). set ws j (bit_or (get_or ws j 0) (1 * 2 ^ k % 2 ^ 64))) c.word_index.ensures c.bit_index.ensures
     ∙ ap (λ (x : ℕ). set ws (m / 64) (bit_or (get_or ws (m / 64) 0) x)) (one_shl 64 (m % 64) (omega arith))))
     (raised ws m c.requires)

@@ -6,4 +6,4 @@ use Rattle.printing.proofs.run.Goals as goal
 
 pub returns : goal.returns
 returns g c =
-    answered printed 66 printed-front _ _ _ _ _ _ c.in_ok-length.ensures.front c.print_rule-page.ensures.count_le_page_bytes.1 c.write.ensures
+    answered printed 66 printed-front _ _ _ _ _ _ c.in_ok-length.ensures.front c.print_rule.ensures.text c.write.ensures

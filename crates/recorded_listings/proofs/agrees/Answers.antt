@@ -5,5 +5,5 @@ use Rattle.recorded_listings.proofs.agrees.Goals as goal
 
 pub returns : goal.returns
 returns c =
-    agrees-said _ _ _ _ _ _ (omega (arith, c.entries-room.ensures.0)) c.pair_at-count.ensures.0 c.refused.ensures
+    agrees-said _ _ _ _ _ _ (omega (arith, c.entries-room.ensures.0)) c.pair_at-count.ensures c.refused.ensures
     c.is_refused.ensures c.is_short_refused.ensures c.is_listed.ensures

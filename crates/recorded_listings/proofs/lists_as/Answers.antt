@@ -1,5 +1,5 @@
 -- `recorded_listings::lists_as` meets its contract: the answer is the call's on paper, and so is the buffer that is left.
-use mathlib.Core.Path.{ap, ◌∙◌}
+use Rattle.std.proofs.Common.{rules}
 use Rattle.comparison.proofs.Called.{came}
 use Rattle.recorded_listings.specs.Listings.{listed_of, masks_after}
 use Rattle.recorded_listings.proofs.Form.{listed-told}
@@ -8,5 +8,5 @@ use Rattle.recorded_listings.proofs.lists_as.Goals as goal
 pub returns : goal.returns
 returns c =
     let call = c.from_anf_coeffs-answer in
-    let numbers = c.told.ensures ∙ listed-told _ call.result ∙ ap listed_of call.ensures.answer in
-    came listed_of masks_after _ _ _ _ numbers call.ensures.lent c.is_same.ensures c.are_same.ensures
+    let numbers = listed-told _ _ _ call.ensures.answer c.from-told.ensures c.map.ensures.cases (λ k t p. search rules) in
+    came listed_of masks_after _ _ _ _ numbers call.ensures.lent c.comes_to.ensures

@@ -1,17 +1,14 @@
--- `recorded_stars::asked` meets its contract: the part of the words that is lent is the one on paper. From the laws of parts (recorded, Part).
-use mathlib.Core.List.{List}
-use mathlib.Core.Path.{ap, ◌∙◌}
-use Prim.Native.Nat.{ℕ, ◌*◌}
-use native.Mathlib.Omega.{arith}
+-- `recorded_stars::asked` meets its contract: the words that are lent are those on paper, and the numbers are the answer's.
+use Rattle.std.proofs.Common.{◌≡◌, List, ℕ, ap, ◌∙◌, rules}
+use Rattle.comparison.proofs.Told.{told-of}
 use Rattle.rules.specs.Calls.{evaluate_stars}
-use Rattle.recorded.specs.Numbers.{word_at}
-use Rattle.recorded.specs.Results.{number_of}
-use Rattle.recorded.proofs.Part.{part-tabulated}
+use Rattle.recorded.specs.Numbers.{words_in}
 use Rattle.recorded_stars.proofs.asked.Goals as goal
 
 pub returns : goal.returns
 returns c =
     let a = c.args in
-    c.answer.ensures
-    ∙ ap (λ (l : List ℕ). number_of (evaluate_stars a.flags l a.bytes.now))
-    (part-tabulated {n = 256} (omega arith) (λ i. word_at a.lent.now (8 * i)) c.set_words.ensures)
+    let lent : c.set_words.new.words ≡ words_in a.count a.lent.now = c.set_words.ensures ∙ ap (λ (k : ℕ). words_in k a.lent.now) (search rules) in
+    told-of (λ x. (x, 0, 0, 0)) (λ x. x) _ _
+    (c.evaluate_stars-answer.ensures ∙ ap (λ (w : List ℕ). evaluate_stars a.flags w a.bytes.now) lent) c.from-2.ensures c.map.ensures.cases
+    (λ x t p. search rules)

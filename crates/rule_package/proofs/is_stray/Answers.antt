@@ -6,7 +6,7 @@ use Rattle.rule_package.proofs.Stray.{stray-bit}
 use Rattle.rule_package.proofs.is_stray.Goals as goal
 
 pub is_stray-requires : goal.is_stray-requires
-is_stray-requires c = (omega arith, omega (arith, word_count-small c.args.flags c.requires))
+is_stray-requires c = let f = c.args.flags in (omega arith, omega (arith, word_count-small f.count f.within))
 
 pub returns : goal.returns
-returns c = c.is_stray.ensures ∙ stray-bit c.args.flags c.args.table c.requires
+returns c = let f = c.args.flags in c.is_stray.ensures ∙ stray-bit f.count c.args.table f.within

@@ -2,8 +2,6 @@
 --   gap p                == what stands between the record that begins at byte p and the one before: nothing before the first
 --   kind_text k           == a record's text, its mark and its payload as a digit
 --   shown o              == the records of an expression's tree
---   first_line n          == line one
---   last_line cost raw    == line three, after the newline that ends line two
 --   lines n l cost raw   == the three lines, where l is the text of the records
 --   text_limit            == what line two has at most, in bytes
 --   Printable n s c r    == the bytes s are an expression of n flags, and it and the two costs are short enough for a page
@@ -35,16 +33,10 @@ abbrev pub shown : Outcome Tree → List ℕ
 shown (gives t) = records t
 shown (refuses k p) = []
 
--- "Line one is n"
-unfoldable pub first_line : ℕ → List ℕ
-first_line n = ascii "flags " ++ decimal n ++ ascii "\n"
-
--- "line three the two costs"
-unfoldable pub last_line : ℕ → ℕ → List ℕ
-last_line cost raw = ascii "\ncost " ++ decimal cost ++ (ascii " raw " ++ decimal raw) ++ ascii "\n"
-
+-- "Line one is n; line two the records ..; line three the two costs."
 unfoldable pub lines : ℕ → List ℕ → ℕ → ℕ → List ℕ
-lines n l cost raw = first_line n ++ l ++ last_line cost raw
+lines n l cost raw =
+    ascii "flags " ++ decimal n ++ ascii "\n" ++ l ++ (ascii "\ncost " ++ decimal cost) ++ (ascii " raw " ++ decimal raw) ++ ascii "\n"
 
 -- "963 bytes always suffice", and "one space between records", of which there are at most 385
 abbrev pub text_limit : ℕ

@@ -1,8 +1,8 @@
 -- `search::best_family` meets its contract. The loop's invariant: the choice from the masks that are left, after the best so far, is the choice from
--- all monomials within the single flags. Each turn takes the lowest of them; the measure is the word that is left.
+-- all monomials within the single flags.
 use mathlib.Core.List.{foldl}
 use mathlib.Core.Path.{◌≡◌}
-use Prim.Native.Nat.{ℕ, ◌^◌, ◌<◌}
+use Prim.Native.Nat.{ℕ}
 use Rattle.bits.specs.Word.{places}
 use Rattle.rules.specs.Cleanup.{is_partial}
 use Rattle.search.specs.Inner.{chosen}
@@ -12,8 +12,7 @@ use Rattle.search.proofs.best_family.Given as goal
 abbrev pub choice : ℕ → ℕ → ℕ → ℕ
 choice monomials b left = foldl (chosen (is_partial (places 64 monomials))) b (places 64 left)
 
-abbrev pub invariant-loop-left : goal.invariant-loop-left
-invariant-loop-left l = (l.left < 2 ^ 64) × (choice l.monomials l.best l.left ≡ choice l.monomials l.initial.best l.initial.left)
-
-abbrev pub decreases-loop-left : goal.decreases-loop-left
-decreases-loop-left l = l.left
+abbrev pub invariant-loop-mask : goal.invariant-loop-mask
+invariant-loop-mask l =
+    (goal.iterator-loop-mask).can_next l.mask-iterator × (goal.iterator-loop-mask).is_finite l.mask-iterator
+    × (choice l.monomials l.best l.mask-iterator.left ≡ choice l.monomials 0 l.initial.mask-iterator.left)

@@ -7,5 +7,5 @@ use Rattle.table.proofs.low_settings.Goals as goal
 
 pub returns : goal.returns
 returns c =
-    let six : 6 ≡ c.args.flags = omega arith in
+    let six : 6 ≡ c.args.flags.count = omega (arith, c.args.flags.within) in
     sym (mod-eq_of_lt c.ranges.word.fits) ∙ ap (λ (n : ℕ). c.args.word % 2 ^ (2 ^ n)) six

@@ -1,65 +1,57 @@
--- `anf_form::degree::list` meets its contract. The loop's invariant: the monomials of lower degree are written, degree by degree (mask_words,
--- Degrees). The measure is what is left of the degrees.
-use mathlib.Core.List.{List, ◌++◌}
-use mathlib.Core.Path.{◌≡◌, ap, ◌∙◌}
-use Prim.Native.Nat.{ℕ, ◌+◌}
+-- `anf_form::degree::list` meets its contract: with the number of flags for the highest degree, the degrees make the ordered list (mask_words,
+-- Degrees).
+use Rattle.std.proofs.Common.{◌≡◌, ◌+◌, ◌++◌, ◌≤◌, ◌∙◌, List, ℕ, false, ap, arith, length}
 use native.Mathlib.Numerals.{add-one}
-use native.Mathlib.Omega.{arith}
-use lib.ListN.{length}
 use Rattle.bits.specs.Stored.{Room}
-use Rattle.bits.proofs.Stored.{stored-none, stored-append, stored-length, room_next}
+use Rattle.bits.proofs.Stored.{stored-none, stored-append, room_next}
+use Rattle.rules.specs.Coefficient.{word_count, stray}
 use Rattle.rules.specs.Monomial.{monomials, ordered}
-use Rattle.mask_words.proofs.Degrees.{degrees, degrees-one, degrees-suc, degrees-le, ordered-monomials}
-use Rattle.anf_form.proofs.Held.{ascending-held}
 use Rattle.laws.proofs.form.Ordered.{length-ordered}
 use Rattle.mask_words.specs.inner.Degree.{of_degree}
+use Rattle.mask_words.proofs.Degrees.{degrees, degrees-one, degrees-suc, degrees-le, ordered-monomials}
 use Rattle.anf_form.specs.Inner.{held}
+use Rattle.anf_form.proofs.Held.{ascending-held, below-held, word_count-most}
+use Rattle.anf_form.proofs.Rest.{room-rest, stored-rest}
 use Rattle.anf_form.proofs.degree.list.Goals as goal
 
-pub overflow_add-degree-end : goal.overflow_add-degree-end
-overflow_add-degree-end c = omega arith
+-- one degree more, and all degrees
+more : (l : List ℕ) (d : ℕ) → 1 ≤ d → degrees (monomials l) (d + 1) ≡ degrees (monomials l) d ++ of_degree d l
+more l d h = ap (degrees (monomials l)) (add-one d) ∙ degrees-suc l d h
+
+whole : (n : ℕ) (ws : List ℕ) → length ws ≡ word_count n → stray n ws ≡ false
+    → degrees (monomials (held (length ws) ws)) (n + 1) ≡ ordered (monomials (held (length ws) ws))
+whole n ws all clean =
+    let l = held (length ws) ws in
+    ap (degrees (monomials l)) (add-one n) ∙ ordered-monomials l n (ascending-held ws (length ws)) (rw all (below-held ws n clean))
 
 pub loop-degree-init : goal.loop-degree-init
 loop-degree-init c =
-    let masks : List ℕ = held c.args.words c.args.coefficients.now in
-    (omega arith, omega arith, rw (degrees-one masks) (stored-none 0 _ (omega arith)))
+    let ws = c.args.coefficients.words.now in
+    rw (degrees-one (held (length ws) ws)) (stored-none 0 _ (omega arith))
 
-pub list_degree-at-requires : goal.list_degree-at-requires
-list_degree-at-requires c =
-    let masks : List ℕ = held c.args.words c.args.coefficients.now in
-    let whole : degrees (monomials masks) (c.args.flags + 1) ≡ ordered (monomials masks) = ap (degrees (monomials masks)) (add-one c.args.flags)
-    ∙ ordered-monomials masks c.args.flags (ascending-held c.args.coefficients.now c.args.words) c.requires.below in
-    let l : List ℕ = masks in
-    let d : ℕ = c.loop-degree.degree in
-    let more : degrees (monomials l) (d + 1) ≡ degrees (monomials l) d ++ of_degree d l =
-    ap (degrees (monomials l)) (add-one d) ∙ degrees-suc l d c.loop-degree.invariant.0 in
-    let room : Room (of_degree d l) c.loop-degree.at c.loop-degree.out =
-    let fits = degrees-le (monomials l) (d + 1) (c.args.flags + 1) (omega arith) in
-    room_next (of_degree d l) (rw (← more) (omega (arith, ap length whole, length-ordered (monomials l)))) c.loop-degree.invariant.2 in
-    record { words_in_bounds = omega arith; room = room }
+pub list_degree-count-requires-clause-few : goal.list_degree-count-requires-clause-few
+list_degree-count-requires-clause-few c = let a = c.args.coefficients in omega (arith, a.all, word_count-most a.flags.count a.flags.within)
 
-pub overflow_step-degree : goal.overflow_step-degree
-overflow_step-degree c = omega arith
-
-pub loop-degree-smaller : goal.loop-degree-smaller
-loop-degree-smaller c = omega arith
+pub list_degree-count-requires-clause-room : goal.list_degree-count-requires-clause-room
+list_degree-count-requires-clause-room c =
+    let a = c.args.coefficients in
+    let l = held (length a.words.now) a.words.now in
+    let d = c.loop-degree.degree in
+    let all = whole a.flags.count a.words.now a.all a.none_stray in
+    let fits = degrees-le (monomials l) (d + 1) (a.flags.count + 1) (omega arith) in
+    let room : Room (of_degree d l) c.loop-degree.count c.loop-degree.out =
+    room_next (of_degree d l) (rw (← more l d (omega arith)) (omega (arith, ap length all, length-ordered (monomials l)))) c.loop-degree.invariant in
+    room-rest c.loop-degree.count c.loop-degree.out (of_degree d l) room
 
 pub loop-degree-preserved : goal.loop-degree-preserved
 loop-degree-preserved c =
-    let masks : List ℕ = held c.args.words c.args.coefficients.now in
-    let l : List ℕ = masks in
-    let d : ℕ = c.loop-degree.degree in
-    let more : degrees (monomials l) (d + 1) ≡ degrees (monomials l) d ++ of_degree d l =
-    ap (degrees (monomials l)) (add-one d) ∙ degrees-suc l d c.loop-degree.invariant.0 in
-    (omega arith, omega arith, rw more (stored-append c.loop-degree.invariant.2 c.list_degree-at.ensures))
-
-pub shape_of-out : goal.shape_of-out
-shape_of-out c = stored-length c.loop-degree.invariant.2
+    let ws = c.args.coefficients.words.now in
+    let l = c.loop-degree in
+    rw (more (held (length ws) ws) l.degree (omega arith))
+    (stored-append l.invariant (stored-rest l.count l.out _ _ _ (omega arith) c.list_degree-count.ensures))
 
 pub returns : goal.returns
 returns c =
-    let masks : List ℕ = held c.args.words c.args.coefficients.now in
-    let whole : degrees (monomials masks) (c.args.flags + 1) ≡ ordered (monomials masks) = ap (degrees (monomials masks)) (add-one c.args.flags)
-    ∙ ordered-monomials masks c.args.flags (ascending-held c.args.coefficients.now c.args.words) c.requires.below in
-    let all : c.loop-degree.degree ≡ c.args.flags + 1 = omega arith in
-    rw (← whole, ← all) c.loop-degree.invariant.2.entries
+    let a = c.args.coefficients in
+    let end : c.loop-degree.degree ≡ a.flags.count + 1 = omega arith in
+    rw (← whole a.flags.count a.words.now a.all a.none_stray, ← end) c.loop-degree.invariant.entries

@@ -1,13 +1,10 @@
--- `anf_transform::between::along_flag` meets its contract. The loop's invariant: the words before the next block are joined, and the others are as
--- they were; the words are a whole number of blocks.
-use mathlib.Core.Path.{◌≡◌}
-use Prim.Native.Nat.{◌-◌, ◌^◌, ◌≤◌}
-use lib.ListN.{length}
-use Rattle.anf_transform.proofs.AcrossWords.{Joined}
+-- `anf_transform::between::along_flag` meets its contract. The loop's invariant: the words of the first i pairs of halves are joined, and the others
+-- are as they were.
+use Rattle.std.proofs.Common.{◌≡◌, ◌-◌, ◌*◌, ◌^◌}
+use Rattle.anf_transform.specs.inner.Change.{Changed}
+use Rattle.anf_transform.specs.inner.Flag.{joined}
 use Rattle.anf_transform.proofs.between.along_flag.Given as goal
 
-abbrev pub invariant-loop-base : goal.invariant-loop-base
-invariant-loop-base l = (l.step ≡ 2 ^ l.j) × (l.base ≤ length l.initial.words) × Joined l.j l.initial.words l.base l.words
-
-abbrev pub decreases-loop-base : goal.decreases-loop-base
-decreases-loop-base l = length l.initial.words - l.base
+abbrev pub invariant-loop-i : goal.invariant-loop-i
+invariant-loop-i l =
+    (l.step ≡ 2 ^ l.j) × (l.i-end ≡ 2 ^ (l.count - 1 - l.j)) × Changed 0 (2 * 2 ^ l.j * l.i) (joined l.j l.initial.words) l.initial.words l.words

@@ -1,56 +1,44 @@
--- `anf_transform::pack::pack` meets its contract. The loop's invariant: the first i words are those of the table.
--- The measure is what is left of the words.
-use mathlib.Core.Path.{◌≡◌, ap, ◌∙◌}
-use Prim.Native.Nat.{ℕ, ◌+◌, ◌*◌, ◌^◌, ◌≤◌, ◌<◌, min}
-use native.Mathlib.Nat.{min-le_right}
-use native.Mathlib.Omega.{arith}
-use borrow.Author.Rules.{rules}
+-- `anf_transform::pack::pack` meets its contract: the next 64 entries are one word more of the table's (Chunk).
+use Rattle.std.proofs.Common.{◌∙◌, ℕ, min, ap, arith, length}
 use lib.ListN.{length-set}
 use lib.Seq.{take_all}
-use Rattle.bits.specs.Range.{keep, upto}
-use Rattle.bits.specs.Word.{word}
-use Rattle.rules.specs.Coefficient.{word_count, words}
+use Rattle.rules.specs.Coefficient.{words}
 use Rattle.rules.specs.Table.{entry}
 use Rattle.laws.proofs.transform.Packed.{length-words}
 use Rattle.bits.proofs.Stores.{front-more, front-all}
-use Rattle.anf_transform.proofs.WordByWord.{part-fits, part-word}
+use Rattle.anf_transform.proofs.Chunk.{next-word, chunks-all}
 use Rattle.anf_transform.proofs.pack.pack.Goals as goal
 
-pub overflow_mul-i : goal.overflow_mul-i
-overflow_mul-i c =
-    let counted : c.per_word-count.result ≡ min (2 ^ c.args.flags) 64 = c.per_word-count.ensures ∙ ap (λ (k : ℕ). min k 64) c.setting_count.ensures in
-    let held : 64 * c.loop-i.i + c.per_word-count.result ≤ 2 ^ c.args.flags =
-    omega (arith, counted, part-fits c.args.flags c.loop-i.i (omega arith)) in
-    omega (arith, held)
-
-pub pack_word-requires : goal.pack_word-requires
-pack_word-requires c =
-    let counted : c.per_word-count.result ≡ min (2 ^ c.args.flags) 64 = c.per_word-count.ensures ∙ ap (λ (k : ℕ). min k 64) c.setting_count.ensures in
-    let held : 64 * c.loop-i.i + c.per_word-count.result ≤ 2 ^ c.args.flags =
-    omega (arith, counted, part-fits c.args.flags c.loop-i.i (omega arith)) in
-    omega (arith, held, counted, min-le_right (2 ^ c.args.flags) 64)
+pub bounds-out-i : goal.bounds-out-i
+bounds-out-i c =
+    let l = c.loop-i in
+    let step = c.in-Some.ensures.steps in
+    let size = step.0.1.1 ∙ ap (λ (k : ℕ). min k (length l.i-iterator.iter.rest.now)) l.invariant.0 in
+    let next = next-word _ _ _ _ c.args.table.complete l.invariant.1 _ _ step.0.1.0 size step.0.1.2 in
+    omega (arith, next.place)
 
 pub loop-i-preserved : goal.loop-i-preserved
 loop-i-preserved c =
-    let counted : c.per_word-count.result ≡ min (2 ^ c.args.flags) 64 = c.per_word-count.ensures ∙ ap (λ (k : ℕ). min k 64) c.setting_count.ensures in
-    let a = c.args in
     let l = c.loop-i in
-    let v = c.pack_word.result in
-    let ws = words a.flags (entry a.table.now) in
-    let h : l.i < word_count a.flags = omega arith in (
-      search rules,
-      search rules,
-      length-set l.out l.i v ∙ l.invariant.2,
-      front-more l.out ws l.i v 0 (omega arith) (omega (arith, length-words a.flags (entry a.table.now)))
-          (c.pack_word.ensures
-          ∙ ap (λ (k : ℕ). word (keep (λ j. entry a.table.now (64 * l.i + j)) (upto k))) counted
-          ∙ part-word a.flags l.i h (entry a.table.now))
+    let step = c.in-Some.ensures.steps in
+    let size = step.0.1.1 ∙ ap (λ (k : ℕ). min k (length l.i-iterator.iter.rest.now)) l.invariant.0 in
+    let next = next-word _ _ _ _ c.args.table.complete l.invariant.1 _ _ step.0.1.0 size step.0.1.2 in
+    let i = l.i-iterator.count in
+    let ws = words c.args.table.flags.count (entry c.args.table.entries.now) in
+    let many = length-words c.args.table.flags.count (entry c.args.table.entries.now) in
+    rw (step.1, step.2) (
+      step.0.0 ∙ l.invariant.0,
+      next.rest,
+      length-set l.out i c.pack_word.result ∙ l.invariant.2,
+      front-more l.out ws i c.pack_word.result 0 (omega (arith, next.place)) (omega (arith, next.place, many)) (c.pack_word.ensures ∙ next.word_is)
           l.invariant.3,
     )
 
 pub returns : goal.returns
 returns c =
-    let a = c.args in
     let l = c.loop-i in
-    let ws = words a.flags (entry a.table.now) in
-    front-all l.out ws l.i (omega arith) l.invariant.3 ∙ take_all l.i ws (omega (arith, length-words a.flags (entry a.table.now)))
+    let n = c.args.table.flags.count in
+    let ws = words n (entry c.args.table.entries.now) in
+    let all = chunks-all n l.i-iterator.count _ _ c.args.table.complete l.invariant.1 c.in-None.ensures.steps.0.1.0 in
+    front-all l.out ws l.i-iterator.count (omega (arith, all)) l.invariant.3
+    ∙ take_all _ ws (omega (arith, all, length-words n (entry c.args.table.entries.now)))

@@ -1,16 +1,13 @@
--- `anf_transform::pack::pack` meets its contract. The loop's invariant: the first i words are those of the table.
--- The measure is what is left of the words.
-use mathlib.Core.Path.{◌≡◌}
-use Prim.Native.Nat.{◌-◌, ◌≤◌}
-use lib.ListN.{length, take}
+-- `anf_transform::pack::pack` meets its contract. The loop's invariant: the entries behind the first i words are left, and these are those of the
+-- table.
+use Rattle.std.proofs.Common.{◌≡◌, ◌*◌, ◌^◌, length, take, drop}
 use Rattle.rules.specs.Coefficient.{word_count, words}
 use Rattle.rules.specs.Table.{entry}
 use Rattle.anf_transform.proofs.pack.pack.Given as goal
 
 abbrev pub invariant-loop-i : goal.invariant-loop-i
 invariant-loop-i l =
-    (l.i-end ≡ word_count l.flags) × (l.i ≤ l.i-end) × (length l.out ≡ word_count l.flags) ×
-    (take l.i l.out ≡ take l.i (words l.flags (entry l.table)))
-
-abbrev pub decreases-loop-i : goal.decreases-loop-i
-decreases-loop-i l = l.i-end - l.i
+    let i = l.i-iterator.count in
+    let n = l.table.flags.count in
+    (l.i-iterator.iter.size ≡ 64) × (l.i-iterator.iter.rest.now ≡ drop (64 * i) (take (2 ^ n) l.table.entries.now)) ×
+    (length l.out ≡ word_count n) × (take i l.out ≡ take i (words n (entry l.table.entries.now)))

@@ -13,7 +13,7 @@ use Rattle.form.proofs.Form.is_family.Goals as goal
 pub subsets-requires : goal.subsets-requires
 subsets-requires c =
     let inside : c.singles-singles.result < 64 = rw c.singles-singles.ensures (singles-lt c.args.self.word) in
-    (c.requires, inside)
+    inside
 
 pub returns : goal.returns
 returns c =

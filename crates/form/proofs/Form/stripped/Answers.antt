@@ -11,4 +11,4 @@ pub returns : goal.returns
 returns c =
     let w = c.args.self.word in
     let k = c.args.cube in
-    ap (λ (x : ℕ). places 64 (bit_and w x / 2 ^ k)) c.supersets.ensures ∙ stripped-word w (omega arith) k c.requires.1
+    ap (λ (x : ℕ). places 64 (bit_and w x / 2 ^ k)) c.supersets.ensures ∙ stripped-word w (omega arith) k c.requires.0

@@ -1,7 +1,11 @@
--- `package_reader::header::fields` meets its contract: each number is the one in its bytes.
-use Rattle.rule_package.specs.Calls.{rule_at}
+-- `package_reader::header::fields` meets its contract. From the law of Fields.
+use Rattle.package_reader.proofs.Fields.{header-whole, header-fields}
 use Rattle.package_reader.proofs.header.fields.Goals as goal
 
 pub returns : goal.returns
-unfolding rule_at
-returns c = rw (c.word_at.ensures, c.wide.ensures.0, c.pair_at-length.ensures.0)
+returns c =
+    let a = c.args in
+    let is = c.in_ok-header.ensures.cases in (
+      header-whole a.bytes.now _ a.place c.requires.0 is,
+      rw (c.from_le_bytes-length.ensures, c.from_le_bytes.ensures) (header-fields a.bytes.now _ a.place c.requires.0 is),
+    )

@@ -1,18 +1,10 @@
--- `recorded::slices::set_words` meets its contract. The loop's invariant: the entries passed are set. The measure is what is left of the list.
-use mathlib.Core.Path.{refl}
-use native.Mathlib.Omega.{arith}
+-- `recorded::slices::set_words` meets its contract: each entry is the one of its place.
+use Rattle.std.proofs.Common.{◌*◌, rules}
+use Rattle.bits.proofs.Tabulated.{map-upto-of}
 use Rattle.recorded.specs.Numbers.{word_at}
-use Rattle.recorded.proofs.Filled.{filled_none, filled_more, filled-whole}
 use Rattle.recorded.proofs.slices.set_words.Goals as goal
 
-pub loop-i-init : goal.loop-i-init
-loop-i-init c = (omega arith, refl, filled_none _ _ refl)
-
-pub loop-i-preserved : goal.loop-i-preserved
-loop-i-preserved c = (omega arith, refl, filled_more _ _ c.loop-i.invariant.2 (omega arith) c.word_at.ensures)
-
-pub shape_of-words : goal.shape_of-words
-shape_of-words c = c.loop-i.invariant.2.size
-
 pub returns : goal.returns
-returns c = filled-whole _ _ c.loop-i.invariant.2 (omega arith)
+returns c =
+    let each = c.set_each.ensures in
+    map-upto-of _ (λ j. word_at c.args.bytes.now (8 * j)) _ each.len (λ i h. let entry = each.entries i 0 h in search rules)

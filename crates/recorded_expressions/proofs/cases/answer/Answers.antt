@@ -24,13 +24,13 @@ pub returns-in-3 : goal.returns-in-3
 unfolding answers
 returns-in-3 c =
     asked _ _ _ c.if-head-lt38.false 3 c.in-3.is
-    (c.examination.ensures ∙ rw (c.word_at-flags.ensures, c.pair_at-entries.ensures.0))
+    (c.examination.ensures ∙ rw (c.word_at-flags.ensures, c.pair_at-entries.ensures))
 
 pub returns-in-4 : goal.returns-in-4
 unfolding answers
 returns-in-4 c =
     asked _ _ _ c.if-head-lt38.false 4 c.in-4.is
-    (c.raw_costing.ensures ∙ rw (c.word_at-flags.ensures, c.pair_at-entries.ensures.0))
+    (c.raw_costing.ensures ∙ rw (c.word_at-flags.ensures, c.pair_at-entries.ensures))
 
 pub returns-in-5 : goal.returns-in-5
 unfolding answers

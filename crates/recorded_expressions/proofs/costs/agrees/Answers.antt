@@ -1,7 +1,6 @@
 -- `recorded_expressions::costs::agrees` meets its contract: what is compared is the costing on paper and the recorded numbers.
-use mathlib.Core.Path.{ap₂, ◌∙◌}
-use Rattle.comparison.specs.Outcome.{same_outcome}
+use Rattle.comparison.proofs.Same.{same-said}
 use Rattle.recorded_expressions.proofs.costs.agrees.Goals as goal
 
 pub returns : goal.returns
-returns c = c.is_same.ensures ∙ ap₂ same_outcome c.costing.ensures c.outcome_at.ensures
+returns c = same-said c.eq.ensures c.costing.ensures c.outcome_at.ensures

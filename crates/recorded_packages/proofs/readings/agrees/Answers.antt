@@ -9,7 +9,7 @@ use Rattle.recorded_packages.proofs.readings.agrees.Goals as goal
 
 pub returns-then-handed-bytes : goal.returns-then-handed-bytes
 returns-then-handed-bytes c =
-    record { answer = agrees-past _ _ c.half_at-handed.ensures.0 c.if-handed-bytes.true; lent = refl }
+    record { answer = agrees-past _ _ c.half_at-handed.ensures c.if-handed-bytes.true; lent = refl }
 
 pub slice_bounds-asked-end-then-at-bytes : goal.slice_bounds-asked-end-then-at-bytes
 slice_bounds-asked-end-then-at-bytes c = sym (length-take-le _ _ (search rules))
@@ -17,7 +17,7 @@ slice_bounds-asked-end-then-at-bytes c = sym (length-take-le _ _ (search rules))
 pub returns-then-at-bytes : goal.returns-then-at-bytes
 returns-then-at-bytes c =
     record {
-      answer = agrees-whole _ _ c.half_at-handed.ensures.0 c.if-handed-bytes.false c.half_at-at.ensures.0 c.if-at-bytes.true c.asked.ensures;
+      answer = agrees-whole _ _ c.half_at-handed.ensures c.if-handed-bytes.false c.half_at-at.ensures c.if-at-bytes.true c.asked.ensures;
       lent = refl;
     }
 
@@ -27,7 +27,7 @@ slice_bounds-asked-end-3 c = sym (length-take-le _ _ (simp length-set (search ru
 pub returns : goal.returns
 returns c =
     record {
-      answer = agrees-changed _ _ c.half_at-handed.ensures.0 c.if-handed-bytes.false c.half_at-at.ensures.0 c.byte_at.ensures.0
-          c.byte_at.ensures.1 c.low_byte.ensures c.asked-is_same.ensures;
+      answer = agrees-changed _ _ c.half_at-handed.ensures c.if-handed-bytes.false c.half_at-at.ensures c.byte_at.ensures
+          c.asked-is_same.ensures;
       lent = put_back _ _ _;
     }

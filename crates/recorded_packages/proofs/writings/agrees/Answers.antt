@@ -1,7 +1,6 @@
 -- `recorded_packages::writings::agrees` meets its contract: the part of the buffer that is lent has as many bytes as are recorded. From the laws of a
 -- recorded writing (Writing) and of parts (recorded, Part).
 use mathlib.Core.Path.{refl}
-use Prim.Native.Nat.{◌-◌}
 use lib.ListN.{length, take, replicate}
 use Rattle.recorded.proofs.Part.{part-repeated}
 use Rattle.recorded_packages.specs.Writings.{pattern, longest}
@@ -14,5 +13,5 @@ returns-then-room-gt-ROOM c = agrees-past _ _ _ c.if-room-gt-ROOM.true
 pub returns : goal.returns
 returns c =
     let a = c.args in
-    agrees-said a.head.now a.expression.now a.after.now (take (length a.after.now - 0) (replicate longest pattern)) c.if-room-gt-ROOM.false
+    agrees-said a.head.now a.expression.now a.after.now (take (length a.after.now) (replicate longest pattern)) c.if-room-gt-ROOM.false
     (part-repeated c.if-room-gt-ROOM.false pattern refl) c.asked.ensures

@@ -1,11 +1,10 @@
 -- `recorded_rules::calls::is_accepted` meets its contract: the answer is the examiner's on paper.
-use mathlib.Core.Path.{ap, ap₂, ◌∙◌}
-use Rattle.comparison.specs.Outcome.{same_outcome}
-use Rattle.recorded.specs.Results.{number_of}
+use Rattle.std.proofs.Common.{refl, rules}
+use Rattle.comparison.proofs.Same.{same-said}
+use Rattle.comparison.proofs.Told.{told-of}
 use Rattle.recorded_rules.proofs.calls.is_accepted.Goals as goal
 
 pub returns : goal.returns
 returns c =
-    let call = c.examine-answer in
-    c.is_same.ensures
-    ∙ ap₂ same_outcome (c.examined.ensures ∙ ap number_of call.ensures) c.given.ensures
+    same-said c.eq.ensures
+    (told-of (λ k. (k, 0, 0, 0)) (λ k. k) _ _ c.examine-answer.ensures c.from.ensures c.map.ensures.cases (λ k t p. search rules)) refl

@@ -1,6 +1,6 @@
--- `replay::records::expand` is safe and ends. The measure is the number of records that are left.
-use Rattle.std.proofs.Common.{◌-◌}
+-- `replay::records::expand` meets its contract. The invariant: what was written is within the buffer.
+use Rattle.std.proofs.Common.{◌≤◌, length}
 use Rattle.replay.proofs.records.expand.Given as goal
 
-abbrev pub decreases-loop-i : goal.decreases-loop-i
-decreases-loop-i l = l.records - l.i
+abbrev pub invariant-loop-i : goal.invariant-loop-i
+invariant-loop-i l = l.at ≤ length l.out

@@ -1,9 +1,0 @@
--- `lanes::walk_deep` meets its contract: the stack has an entry more than there may be records, so the walk over it is never short of one.
-use native.Mathlib.Omega.{arith}
-use Rattle.lanes.proofs.walk_deep.Goals as goal
-
-pub returns-in-Done : goal.returns-in-Done
-returns-in-Done c = rw c.in-Done.is at c.walk_on-attempt.ensures
-
-pub returns-in-Full : goal.returns-in-Full
-returns-in-Full c = absurd (omega (arith, rw c.in-Full.is at c.walk_on-attempt.ensures))

@@ -1,5 +1,0 @@
--- `replay_expressions::files::compared` is safe and ends. The measure is the number of turns left.
-use Rattle.replay_expressions.proofs.files.compared.Given as goal
-
-abbrev pub decreases-loop-turns : goal.decreases-loop-turns
-decreases-loop-turns g l = l.turns
