@@ -3,11 +3,10 @@
 --   union-some, flags-below                == of two masks one has a flag; the flags that occur in a form are below the count of masks
 --   raw-limit, cleanup-limit, inner-limit  == raw cost, and the cost of a cleaned form and of a cleaned inner form
 --   covered-limit                          == the literals of the monomials that contain a cube
---   product-limit, chain-limit             == the cost of a product, and of an OR chain
---   pair-bounds, pair-limit                == two monomials ascend, and are masks above 0; the cost of both products of an absorption
+--   product-limit                          == the cost of a product
 use mathlib.Core.Bool.{Bool, true, false}
 use mathlib.Core.List.{List, [], ◌∷◌, map}
-use mathlib.Core.Path.{◌≡◌, refl, subst}
+use mathlib.Core.Path.{◌≡◌, refl}
 use Prim.Native.Nat.{ℕ, ◌-◌, ◌≤◌, ◌<◌}
 use native.Mathlib.Nat.{le_trans}
 use native.Mathlib.Omega.{arith}
@@ -29,9 +28,11 @@ use Rattle.rules.specs.Form.{cube, or_chain, raw_cost, literals}
 use Rattle.rules.specs.Monomial.{monomials}
 use Rattle.rules.specs.Tree.{cost}
 use Rattle.laws.proofs.cost.Cost.{cost-cube, cost-or_chain, cost-or_chain-few, raw-literals, term_cost-suc}
-use Rattle.laws.proofs.form.Covered.{pair-order, ascending-stripped}
+use Rattle.laws.proofs.form.Covered.{ascending-stripped}
 use Rattle.laws.proofs.cost.Size.{cost-cleanup, raw_cost-limit}
 use Rattle.mask_words.specs.Lookup.{mask_count}
+use Rattle.mask_words.specs.declared.mask.Mask.{Mask}
+use Rattle.mask_words.specs.declared.mask.Monomial.{Monomial}
 use Rattle.form.specs.Masks.{masks}
 use Rattle.form.specs.declared.Form.{Form}
 use Rattle.form.proofs.Masks.{ascending-masks, below-masks}
@@ -79,26 +80,7 @@ module _ (f : Form) where
       go [] h = tt
       go (m ∷ k) h = (omega (arith, h.0), go k h.1)
 
-module _ (m : ℕ) (h : m < mask_count) where
-  pub product-limit : 0 < m → cost (cube m) ≤ 11
-  product-limit p = omega (arith, cost-cube m, term_cost-suc m p, ones-le 6 m h)
-
-  pub chain-limit : cost (or_chain m) ≤ 7
-  chain-limit = go (ltb 1 (ones m)) refl
-    where
-      go : (b : Bool) → ltb 1 (ones m) ≡ b → cost (or_chain m) ≤ 7
-      go true e = omega (arith, ones-le 6 m h, cost-or_chain m (ltb-true 1 (ones m) e))
-      go false e = omega (arith, cost-or_chain-few m (ltb-false 1 (ones m) e))
-
-module _ (f : Form) (m o : ℕ) (e : monomials (masks f) ≡ m ∷ o ∷ []) where
-  pub pair-bounds : (0 < m) × (m < o) × (o < mask_count)
-  pair-bounds =
-      let l = masks f in
-      let (first, up) = pair-order l (ascending-masks f) m o e in
-      let low : Below mask_count (m ∷ o ∷ []) = subst (Below mask_count) e (below-keep mask_count (ltb 0) l (below-masks f)) in
-      (first, up, low.1.0)
-
-  pub pair-limit : (cost (cube m) ≤ 11) × (cost (cube (o - m)) ≤ 11)
-  pair-limit =
-      let b = pair-bounds in
-      (product-limit m (omega arith) (omega arith), product-limit (o - m) (omega arith) (omega arith))
+pub product-limit : (m : Monomial) → cost (cube m.mask.bits) ≤ 11
+product-limit m =
+    let u = m.mask.bits in
+    omega (arith, cost-cube u, term_cost-suc u m.some, ones-le 6 u m.mask.within)

@@ -1,31 +1,27 @@
 -- What is known of the masks that rules 2 and 3 choose: they are among the candidates, so the rule's number of monomials is there, the form's parts
--- have fewer literals than the form, and the mask is below the count of masks and costs little. It rests on the best choice (laws, Greatest), the
+-- have fewer literals than the form, and the mask costs little. It rests on the best choice (laws, Greatest), the
 -- candidates (laws, Recursion), the literals of parts (laws, Literals), the bounds of a form (Bounds) and an answer that may be none (search,
 -- Positive).
---   family-many, family-fewer, family-limit    == where rule 2 chooses the mask m: three monomials; the remainder has fewer literals; m and its chain
+--   family-many, family-fewer                  == where rule 2 chooses the mask m: three monomials; the remainder has fewer literals
 --   is_cube-fewer, is_cube-within                == of a candidate cube the stripped form has fewer literals, and its flags occur
 --   cube-many                                  == where rule 3 chooses the cube c: two monomials
 --   cube-fewer, inner-fewer                    == the remainder and the stripped form have fewer literals
---   cube-below                                 == and c is below the count of masks
---   cube-limit                                 == a winner in a form: its cube, and what that costs with its inner form
+--   cube-limit                                 == a winner in a form: what its cube costs with its inner form
 use mathlib.Core.Bool.{true, not}
 use mathlib.Core.List.{List}
-use mathlib.Core.Path.{◌≡◌, sym, subst, ◌∙◌}
+use mathlib.Core.Path.{◌≡◌, sym, subst}
 use Prim.Native.Nat.{ℕ, ◌+◌, ◌≤◌, ◌<◌}
-use native.Mathlib.Nat.{lt_of_le_of_lt, le_trans}
+use native.Mathlib.Nat.{le_trans}
 use native.Mathlib.Omega.{arith}
 use lib.Count.{ones}
 use lib.ListN.{length}
 use Rattle.bits.specs.Bit.{within}
-use Rattle.bits.specs.Range.{from, keep, mem}
+use Rattle.bits.specs.Range.{keep, mem}
 use Rattle.bits.specs.Sum.{union}
-use Rattle.bits.proofs.Mask.{within-le}
-use Rattle.bits.proofs.Range.{length-keep, mem-keep}
+use Rattle.bits.proofs.Range.{length-keep}
 use Rattle.bits.proofs.Total.{total-const, total-two}
-use Rattle.bits.proofs.Truth.{and_true_r}
-use Rattle.bits.proofs.Ascending.{below-mem}
 use Rattle.rules.specs.Cleanup.{family, best_family, covered, stripped, is_cube, best_cube, cleanup}
-use Rattle.rules.specs.Form.{cube, or_chain, literals}
+use Rattle.rules.specs.Form.{cube, literals}
 use Rattle.rules.specs.Monomial.{monomials}
 use Rattle.rules.specs.Tree.{cost}
 use Rattle.laws.proofs.form.Covered.{covered-occurs}
@@ -34,13 +30,11 @@ use Rattle.laws.proofs.form.Greatest.{greatest-mem}
 use Rattle.laws.proofs.form.Literals.{literals-stripped, literals-uncovered, literals-without}
 use Rattle.laws.proofs.value.Recursion.{families, cubes, is_cube-many, families-mem, cubes-mem}
 use Rattle.laws.proofs.value.Turn.{may_part}
-use Rattle.mask_words.specs.Lookup.{mask_count}
 use Rattle.form.specs.Masks.{masks}
 use Rattle.form.specs.declared.Form.{Form}
-use Rattle.form.proofs.Masks.{below-masks}
 use Rattle.anf_cleanup.specs.Inner.{Winner}
 use Rattle.anf_cleanup.specs.declared.Best.{Best}
-use Rattle.anf_cleanup.proofs.Bounds.{flags-below, inner-limit, product-limit, chain-limit}
+use Rattle.anf_cleanup.proofs.Bounds.{inner-limit, product-limit}
 
 -- ---- rule 2
 
@@ -59,11 +53,6 @@ module _ (l : List ℕ) (m : ℕ) (e : m ≡ best_family l) (p : 0 < m) where
 
   pub family-fewer : (k : List ℕ) → k ≡ keep (λ x. not (mem x (family m))) l → literals k < literals l
   family-fewer k q = subst (λ (x : List ℕ). literals x < literals l) (sym q) (literals-without m l p (families-mem l m among).1)
-
-pub family-limit : (f : Form) (m : ℕ) → m ≡ best_family (masks f) → 0 < m → (m < mask_count) × (cost (or_chain m) ≤ 7)
-family-limit f m e p =
-    let h = below-mem mask_count (masks f) m (below-masks f) (families-mem (masks f) m (among (masks f) m e p)).1 in
-    (h, chain-limit m h)
 
 -- ---- rule 3
 
@@ -90,13 +79,6 @@ module _ (l : List ℕ) (c : ℕ) (e : c ≡ best_cube cleanup l) (p : 0 < c) wh
   pub inner-fewer : (k : List ℕ) → k ≡ stripped c l → literals k < literals l
   inner-fewer k q = subst (λ (x : List ℕ). literals x < literals l) (sym q) (literals-stripped c l p (omega (arith, (cubes-mem l c candidate).1)))
 
-pub cube-below : (f : Form) (c : ℕ) → c ≡ best_cube cleanup (masks f) → 0 < c → c < mask_count
-cube-below f c e p =
-    let l = masks f in
-    let test = and_true_r (mem c (from 1 (union l))) (is_cube l c) (sym (mem-keep (is_cube l) (from 1 (union l)) c) ∙ candidate l c e p) in
-    lt_of_le_of_lt (within-le c (union l) (is_cube-within l c test)) (flags-below f)
-
-pub cube-limit : (f : Form) (b : Best) → Winner (masks f) b → (b.cube < mask_count) × (cost (cube b.cube) + b.inner.cost ≤ 396)
+pub cube-limit : (f : Form) (b : Best) → Winner (masks f) b → cost (cube b.cube.mask.bits) + b.inner.cost ≤ 396
 cube-limit f b h =
-    let small = cube-below f b.cube h.best h.known.nonzero in
-    (small, omega (arith, product-limit b.cube small h.known.nonzero, h.known.inner.costs, inner-limit f b.cube))
+    omega (arith, product-limit b.cube, h.known.inner.costs, inner-limit f b.cube.mask.bits)

@@ -131,10 +131,11 @@ module _ (l : List ℕ) (b : Option Best) (k : List ℕ) (m : ℕ) (q : List ℕ
       go true e = sym (by_saving l (best_of b) m _ e refl false (le-ltb (best_of b).saving _ (h e)))
       go false e = sym (by_test l (best_of b) m false e)
 
-  pub search-more : (d : Best) → (d.cube ≡ m) × ((best_of b).saving < d.saving) × Known l d → Searching l (Some d) q
+  pub search-more : (d : Best) → (d.cube.mask.bits ≡ m) × ((best_of b).saving < d.saving) × Known l d → Searching l (Some d) q
   search-more d (i, h, k) =
       turned (Some d)
-      (sym (by_saving l (best_of b) d.cube d.saving k.test k.saving true (lt-ltb (best_of b).saving d.saving h)) ∙ ap (tried l (best_of b)) i) k
+      (sym (by_saving l (best_of b) d.cube.mask.bits d.saving k.test k.saving true (lt-ltb (best_of b).saving d.saving h))
+      ∙ ap (tried l (best_of b)) i) k
 
 pub search-done : (l : List ℕ) (b : Option Best) (k : List ℕ) → k ≡ [] → Searching l b k → Chosen l b
 search-done l b k e s = go b s.known (ap (λ (x : List ℕ). (foldl (tried l) (best_of b) x).mask) (sym e) ∙ s.best)

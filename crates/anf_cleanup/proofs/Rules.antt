@@ -5,9 +5,10 @@
 --   partial_or-few, common_cube-few                       == with too few monomials, rules 2 and 3 have no candidate
 --   partial_or-none, partial_or-some                      == rule 2, by the best family's mask
 --   common_cube-none, common_cube-some                    == rule 3, by the best cube
+--   partial_or-built, common_cube-built                   == so of masks of the code
 --   absorption-none, absorption-apart, absorption-some  == rule 4: not two monomials; two, by whether the first is a subset
 --   absorption-tree                                     == the candidate of rule 4
-use mathlib.Core.Bool.{Bool, true, false}
+use mathlib.Core.Bool.{Bool, true, false, not}
 use mathlib.Core.List.{List, [], ◌∷◌, ◌++◌, foldl, foldl-append}
 use mathlib.Core.Path.{◌≡◌, refl, sym, ap, ap₂, ◌∙◌}
 use Prim.Native.Nat.{ℕ, zero, suc, ◌-◌, ◌<◌}
@@ -17,14 +18,15 @@ use lib.Dec.{ltb, leb}
 use lib.ListN.{length}
 use borrow.Author.Tests.{ltb-true, le-leb, lt-leb, eq-eqb, ne_eqb}
 use Rattle.bits.specs.Bit.{within}
-use Rattle.bits.specs.Range.{same}
+use Rattle.bits.specs.Range.{keep, mem, same}
 use Rattle.bits.proofs.Truth.{and-true-l}
-use Rattle.rules.specs.Cleanup.{family, atop, singles, is_family, best_family, partial_at, partial_or, best_cube}
+use Rattle.rules.specs.Cleanup.{family, atop, stripped, with_rest, singles, is_family, best_family, partial_at, partial_or, best_cube}
 use Rattle.rules.specs.Cleanup.{cube_at, common_cube, absorb, absorption, cheaper, contest, turn, cleanup}
-use Rattle.rules.specs.Form.{cube, raw_form}
+use Rattle.rules.specs.Form.{cube, or_chain, raw_form}
 use Rattle.rules.specs.Monomial.{constant, monomials}
-use Rattle.rules.specs.Tree.{Tree, AN, NO}
+use Rattle.rules.specs.Tree.{Tree, AN, NO, XO}
 use Rattle.laws.proofs.value.Recursion.{cleanup-turn}
+use Rattle.mask_words.specs.declared.mask.Monomial.{Monomial}
 use Rattle.anf_cleanup.specs.Plan.{only, built}
 use Rattle.anf_cleanup.specs.declared.Choice.TheVariants.{Constant, Family, Partial, Cube, Absorption}
 use Rattle.anf_cleanup.proofs.Candidates.{family-many, cube-many}
@@ -88,27 +90,36 @@ module _ (l : List ℕ) where
   unfolding partial_or partial_at
   partial_or-none e = gated-none (leb 3 (length (monomials l))) (partial_at cleanup l (best_family l)) (ap (partial_at cleanup l) e)
 
-  pub partial_or-some : (m : ℕ) → m ≡ best_family l → 0 < m → partial_or cleanup l ≡ built (Partial m) l ∷ []
+  pub partial_or-some : (m : ℕ) → m ≡ best_family l → 0 < m
+      → partial_or cleanup l ≡ XO (or_chain m) (cleanup (keep (λ x. not (mem x (family m))) l)) ∷ []
   unfolding partial_or partial_at
   partial_or-some m e p =
       ap₂ (λ (b : Bool) (x : ℕ). gated b (partial_at cleanup l x)) (le-leb 3 (length (monomials l)) (family-many l m e p)) (sym e) ∙ at m p
     where
-      at : (x : ℕ) → 0 < x → partial_at cleanup l x ≡ built (Partial x) l ∷ []
+      at : (x : ℕ) → 0 < x → partial_at cleanup l x ≡ XO (or_chain x) (cleanup (keep (λ y. not (mem y (family x))) l)) ∷ []
       at zero h = absurd (omega arith)
       at (suc x) h = refl
+
+  pub partial_or-built : (m : Monomial) → m.mask.bits ≡ best_family l → partial_or cleanup l ≡ built (Partial m) l ∷ []
+  partial_or-built m e = partial_or-some m.mask.bits e m.some
 
   pub common_cube-none : best_cube cleanup l ≡ 0 → common_cube cleanup l ≡ []
   unfolding common_cube cube_at
   common_cube-none e = gated-none (leb 2 (length (monomials l))) (cube_at cleanup l (best_cube cleanup l)) (ap (cube_at cleanup l) e)
 
-  pub common_cube-some : (c : ℕ) → c ≡ best_cube cleanup l → 0 < c → common_cube cleanup l ≡ built (Cube c) l ∷ []
+  pub common_cube-some : (c : ℕ) → c ≡ best_cube cleanup l → 0 < c
+      → common_cube cleanup l ≡ with_rest cleanup (AN (cube c) (cleanup (stripped c l))) (keep (λ m. not (within c m)) l) ∷ []
   unfolding common_cube cube_at
   common_cube-some c e p =
       ap₂ (λ (b : Bool) (x : ℕ). gated b (cube_at cleanup l x)) (le-leb 2 (length (monomials l)) (cube-many l c e p)) (sym e) ∙ at c p
     where
-      at : (x : ℕ) → 0 < x → cube_at cleanup l x ≡ built (Cube x) l ∷ []
+      at : (x : ℕ) → 0 < x
+          → cube_at cleanup l x ≡ with_rest cleanup (AN (cube x) (cleanup (stripped x l))) (keep (λ m. not (within x m)) l) ∷ []
       at zero h = absurd (omega arith)
       at (suc x) h = refl
+
+  pub common_cube-built : (c : Monomial) → c.mask.bits ≡ best_cube cleanup l → common_cube cleanup l ≡ built (Cube c) l ∷ []
+  common_cube-built c e = common_cube-some c.mask.bits e c.some
 
 -- ---- rule 4
 

@@ -33,6 +33,7 @@ use Rattle.laws.proofs.cost.Size.{cost-cleanup}
 use Rattle.form.specs.Masks.{masks}
 use Rattle.form.specs.declared.Form.{Form}
 use Rattle.form.proofs.Masks.{ascending-masks}
+use Rattle.mask_words.specs.declared.mask.Monomial.{Monomial}
 use Rattle.anf_cleanup.specs.Inner.{gross, least, Known, Tried}
 use Rattle.anf_cleanup.specs.Plan.{Planned}
 use Rattle.anf_cleanup.specs.declared.Plan.{Plan}
@@ -46,9 +47,9 @@ pub record Candidate (l : List ℕ) (c : ℕ) (k : List ℕ) : Type 0 where
   pub test : is_cube l c ≡ true
   pub inner : k ≡ stripped c l
 
-pub candidate-of : (f : Form) (c : ℕ) (k : List ℕ) → 0 < c → {t : Bool} → t ≡ is_cube (masks f) c → t ≡ true → k ≡ stripped c (masks f)
-    → Candidate (masks f) c k
-candidate-of f c k p e t q = record { rises = ascending-masks f; nonzero = p; test = sym e ∙ t; inner = q }
+pub candidate-of : (f : Form) (c : Monomial) (k : List ℕ) {t : Bool} → t ≡ is_cube (masks f) c.mask.bits → t ≡ true
+    → k ≡ stripped c.mask.bits (masks f) → Candidate (masks f) c.mask.bits k
+candidate-of f c k e t q = record { rises = ascending-masks f; nonzero = c.some; test = sym e ∙ t; inner = q }
 
 module _ (l : List ℕ) (c : ℕ) (k : List ℕ) (u : Candidate l c k) where
   size : length k ≡ length (covered c l)
@@ -108,11 +109,13 @@ module _ (l : List ℕ) (c : ℕ) (k : List ℕ) (u : Candidate l c k) where
 
 -- ---- a cube that is tried
 
-module _ (l : List ℕ) (c : ℕ) (k : List ℕ) (u : Candidate l c k) where
+module _ (l : List ℕ) (b : Monomial) (k : List ℕ) (u : Candidate l b.mask.bits k) where
+  abbrev c : ℕ
+  c = b.mask.bits
+
   pub known-cube : (g : ℕ) (p : Plan) → g ≡ gross c l → Planned k (cleanup k) p
-      → Known l (record { cube = c; saving = g - p.cost; inner = p })
+      → Known l (record { cube = b; saving = g - p.cost; inner = p })
   known-cube g p e h = record {
-    nonzero = u.nonzero;
     test = u.test;
     saving = saving-cube l c k u g p.cost e h.costs;
     inner = subst (λ (x : List ℕ). Planned x (cleanup x) p) u.inner h;

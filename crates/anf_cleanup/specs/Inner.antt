@@ -28,17 +28,16 @@ Improved l us p q = (t : Tree) → Planned l t p → Planned l (foldl cheaper t 
 
 -- the best so far, as the paper's search keeps it
 abbrev pub best_of : code.Option Best → paper.Best
-best_of (Some b) = record { mask = b.cube; saving = b.saving }
+best_of (Some b) = record { mask = b.cube.mask.bits; saving = b.saving }
 best_of None = record { mask = 0; saving = 0 }
 
 pub record Known (l : List ℕ) (b : Best) : Type 0 where
-  pub nonzero : 0 < b.cube
-  pub test : is_cube l b.cube ≡ true
-  pub saving : b.saving ≡ cube_saving cleanup l b.cube
-  pub inner : Planned (stripped b.cube l) (cleanup (stripped b.cube l)) b.inner
+  pub test : is_cube l b.cube.mask.bits ≡ true
+  pub saving : b.saving ≡ cube_saving cleanup l b.cube.mask.bits
+  pub inner : Planned (stripped b.cube.mask.bits l) (cleanup (stripped b.cube.mask.bits l)) b.inner
 
 abbrev pub Tried : List ℕ → ℕ → ℕ → code.Option Best → Type 0
-Tried l c s o = MatchOption o (is_cube l c ≡ true → cube_saving cleanup l c ≤ s) (λ b. (b.cube ≡ c) × (s < b.saving) × Known l b)
+Tried l c s o = MatchOption o (is_cube l c ≡ true → cube_saving cleanup l c ≤ s) (λ b. (b.cube.mask.bits ≡ c) × (s < b.saving) × Known l b)
 
 -- "raw cost of the covered monomials, without the constant, less 1 less the cube's cost"
 unfoldable pub gross : ℕ → List ℕ → ℕ
@@ -48,11 +47,11 @@ unfoldable pub least : List ℕ → ℕ
 least k = cost (or_chain (union k)) + 2 * digit (constant k)
 
 abbrev pub cube_of : code.Option Best → Option ℕ
-cube_of (Some b) = some b.cube
+cube_of (Some b) = some b.cube.mask.bits
 cube_of None = none
 
 pub record Winner (l : List ℕ) (b : Best) : Type 0 where
-  pub best : b.cube ≡ best_cube cleanup l
+  pub best : b.cube.mask.bits ≡ best_cube cleanup l
   pub known : Known l b
 
 abbrev pub Chosen : List ℕ → code.Option Best → Type 0

@@ -7,7 +7,7 @@
 --   Right o l            == the choice o, or one that is found, makes the cleaned form of l, by a rule that applies
 --   Parts c l i r        == i and r are right for what the choice c leaves to clean of the form l: the inner form and the remainder
 --   Planned l t p        == the plan p makes the tree t of the form l, by a rule that applies, with its cost and choices that are right for its parts
-use Rattle.std.specs.Prelude.{true, not, List, [], ◌∷◌, ◌≡◌, ℕ, ◌<◌, Option, Some, None, IfSome}
+use Rattle.std.specs.Prelude.{true, not, List, [], ◌∷◌, ◌≡◌, ℕ, Option, Some, None, IfSome}
 use Rattle.bits.specs.Bit.{within}
 use Rattle.bits.specs.Range.{keep, mem}
 use Rattle.rules.specs.Cleanup.{cleanup, family, singles, atop, is_family, best_family, with_rest, stripped, absorption, best_cube}
@@ -27,8 +27,8 @@ abbrev pub built : Choice → List ℕ → Tree
 built Constant l = CO (constant l)
 built Family l = atop (constant l) (or_chain (singles l))
 built Raw l = raw_form l
-built (Partial m) l = XO (or_chain m) (cleanup (keep (λ x. not (mem x (family m))) l))
-built (Cube c) l = with_rest cleanup (AN (cube c) (cleanup (stripped c l))) (keep (λ m. not (within c m)) l)
+built (Partial m) l = XO (or_chain m.mask.bits) (cleanup (keep (λ x. not (mem x (family m.mask.bits))) l))
+built (Cube c) l = let u = c.mask.bits in with_rest cleanup (AN (cube u) (cleanup (stripped u l))) (keep (λ m. not (within u m)) l)
 built Absorption l = only (raw_form l) (absorption l)
 
 abbrev pub made : Option Choice → List ℕ → Tree
@@ -39,8 +39,8 @@ abbrev pub Allowed : Choice → List ℕ → Type 0
 Allowed Constant l = Unit
 Allowed Family l = is_family l ≡ true
 Allowed Raw l = Unit
-Allowed (Partial m) l = (0 < m) × (m ≡ best_family l)
-Allowed (Cube c) l = (0 < c) × (c ≡ best_cube cleanup l)
+Allowed (Partial m) l = m.mask.bits ≡ best_family l
+Allowed (Cube c) l = c.mask.bits ≡ best_cube cleanup l
 Allowed Absorption l = absorption l ≡ built Absorption l ∷ []
 
 abbrev pub rank : Option Choice → ℕ
@@ -55,13 +55,12 @@ abbrev pub Parts : Choice → List ℕ → Option Choice → Option Choice → T
 Parts Constant l i r = Unit
 Parts Family l i r = Unit
 Parts Raw l i r = Unit
-Parts (Partial m) l i r = Right r (keep (λ x. not (mem x (family m))) l)
-Parts (Cube c) l i r = Right i (stripped c l) × Right r (keep (λ m. not (within c m)) l)
+Parts (Partial m) l i r = Right r (keep (λ x. not (mem x (family m.mask.bits))) l)
+Parts (Cube c) l i r = Right i (stripped c.mask.bits l) × Right r (keep (λ m. not (within c.mask.bits m)) l)
 Parts Absorption l i r = Unit
 
 pub record Planned (l : List ℕ) (t : Tree) (p : Plan) : Type 0 where
-  pub makes : made p.choices.form l ≡ t
+  pub makes : built p.choice l ≡ t
   pub costs : p.cost ≡ cost t
-  pub allowed : IfSome p.choices.form (λ c. Allowed c l)
-  pub closed : rank p.choices.form ≡ 0
-  pub parts : IfSome p.choices.form (λ c. Parts c l p.choices.inner p.choices.rest)
+  pub allowed : Allowed p.choice l
+  pub parts : Parts p.choice l p.inner p.rest

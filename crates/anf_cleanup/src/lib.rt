@@ -3,27 +3,26 @@
 // literals fall from one cleanup to the next. It rests on `form` and on `search`.
 #![tactic(auto)]
 
-ghost use Rattle.std.specs.Prelude.{Some, None, true, ◌≡◌, ◌<◌, ◌≤◌, length};
+ghost use Rattle.std.specs.Prelude.{Some, None, true, List, [], ◌∷◌, ℕ, ◌≡◌, ◌<◌, ◌≤◌, length};
 ghost use Rattle.form.specs.Masks.{masks};
-ghost use Rattle.mask_words.specs.Lookup.{mask_count};
 ghost use Rattle.rules.specs.Cleanup as paper;
 ghost use Rattle.rules.specs.Form as raw;
-ghost use Rattle.rules.specs.Tree.{cost};
+ghost use Rattle.rules.specs.Tree.{Tree, cost};
 ghost use Rattle.anf_cleanup.specs.Inner.{Improved, best_of, gross, least, Tried, Chosen};
 ghost use Rattle.anf_cleanup.specs.Plan.{Planned};
 
 use form::Form;
-use mask_words::Lookup;
+use mask_words::{Lookup, Monomial};
 
-// The rule that wins: no monomials, the whole OR family, the raw form, or the candidate of rule 2, 3 or 4, with its mask. A mask of six flags is a
-// byte here, so that a plan is small: every turn of the search has one.
+// The rule that wins: no monomials, the whole OR family, the raw form, or the candidate of rule 2, 3 or 4, with its mask. A mask is a byte, so that a
+// plan, which the search copies at every cleanup and every cube, is two words.
 #[derive(Clone, Copy, Debug, PartialEq, Eq)]
 pub enum Choice {
     Constant,
     Family,
     Raw,
-    Partial(u8),
-    Cube(u8),
+    Partial(Monomial),
+    Cube(Monomial),
     Absorption,
 }
 
@@ -36,17 +35,21 @@ pub struct Choices {
     pub rest: Option<Choice>,
 }
 
-// The choices for a form, and what it costs by them.
+// The choice for a form, those for what it leaves to clean, and what the form costs by them. They are no `Choices`: those take nine bytes, an
+// `Option` for each of three choices, so seven bytes of padding before the cost were copied with every plan, and a compilation of four flags took
+// 1,031 ns, with these eight bytes 992. The bar: compiling takes no longer than in 0.5.1.
 #[derive(Clone, Copy, Debug, PartialEq, Eq)]
 pub struct Plan {
-    pub choices: Choices,
+    pub choice: Choice,
+    pub inner: Option<Choice>,
+    pub rest: Option<Choice>,
     pub cost: usize,
 }
 
 // A cube with its saving and the plan of its inner form.
 #[derive(Clone, Copy)]
 struct Best {
-    cube: u8,
+    cube: Monomial,
     saving: usize,
     inner: Plan,
 }
@@ -65,17 +68,30 @@ impl Choices {
     }
 }
 
-// The cost of a product, and of an OR chain, of the flags of a mask.
-fn product_cost(mask: usize) -> usize
-    requires { (0 < mask) × (mask < mask_count) }
-    ensures { result ≡ cost (raw.cube mask) }
-{
-    2 * mask_words::flag_count(mask) - 1
+impl From<Plan> for Choices {
+    ghost from_gives = { λ plan choices. choices ≡ record { form = Some plan.choice; inner = plan.inner; rest = plan.rest } };
+
+    #[inline]
+    fn from(plan: Plan) -> Choices {
+        Choices {
+            form: Some(plan.choice),
+            inner: plan.inner,
+            rest: plan.rest,
+        }
+    }
 }
 
+// The cost of a product, and of an OR chain, of the flags of a mask.
+#[inline(always)]
+fn product_cost(product: Monomial) -> usize
+    ensures { result ≡ cost (raw.cube product.mask.bits) }
+{
+    2 * mask_words::flag_count(usize::from(product)) - 1
+}
+
+// A chain's first OR costs 1, and one beneath another OR nothing: one flag costs 1, and more of them 1 beyond their number.
 fn chain_cost(mask: usize) -> usize
-    requires { (0 < mask) × (mask < mask_count) }
-    ensures { result ≡ cost (raw.or_chain mask) }
+    ensures { (result ≡ cost (raw.or_chain mask)) × (result ≤ 65) }
 {
     let ones = mask_words::flag_count(mask);
     if ones < 2 {
@@ -86,10 +102,12 @@ fn chain_cost(mask: usize) -> usize
 
 // The plan of a choice that leaves no form to clean.
 fn whole(choice: Choice, cost: usize) -> Plan
-    ensures { result ≡ record { choices = record { form = Some choice; inner = None; rest = None }; cost = cost } }
+    ensures { result ≡ record { choice = choice; inner = None; rest = None; cost = cost } }
 {
     Plan {
-        choices: Choices::of(Some(choice)),
+        choice,
+        inner: None,
+        rest: None,
         cost,
     }
 }
@@ -97,22 +115,34 @@ fn whole(choice: Choice, cost: usize) -> Plan
 // The plan of rule 3's candidate.
 fn factored(found: Best, cost: usize, rest: Option<Choice>) -> Plan
     ensures { result ≡ record {
-      choices = record { form = Some (Choice.Cube found.cube); inner = found.inner.choices.form; rest = rest };
+      choice = Choice.Cube found.cube;
+      inner = Some found.inner.choice;
+      rest = rest;
       cost = cost;
     } }
 {
-    let choices = Choices {
-        form: Some(Choice::Cube(found.cube)),
-        inner: found.inner.choices.form,
+    Plan {
+        choice: Choice::Cube(found.cube),
+        inner: Some(found.inner.choice),
         rest,
-    };
-    Plan { choices, cost }
+        cost,
+    }
 }
 
-// The rule that wins for a form whose raw cost is `raw_cost`.
+// The cheaper of two plans, the first of those that cost the same.
+#[inline]
+fn cheaper(best: Plan, plan: Plan) -> Plan
+    ensures { (l : List ℕ) (u : Tree) → Planned l u plan → Improved l (u ∷ []) best result }
+{
+    if best.cost <= plan.cost {
+        return best;
+    }
+    plan
+}
+
+// The rule that wins for a form.
 #[cycle(cleanup)]
-pub fn cleanup(form: Form, raw_cost: usize, lookup: &Lookup) -> Plan
-    requires { (raw_cost ≡ raw.raw_cost (masks form)) }
+pub fn cleanup(form: Form, lookup: &Lookup) -> Plan
     ensures { Planned (masks form) (paper.cleanup (masks form)) result }
 {
     let count = form.count();
@@ -122,10 +152,10 @@ pub fn cleanup(form: Form, raw_cost: usize, lookup: &Lookup) -> Plan
     if form.is_family(lookup) {
         return whole(
             Choice::Family,
-            chain_cost(form.singles()) + 2 * form.constant(),
+            chain_cost(usize::from(form.singles())) + 2 * usize::from(form.constant()),
         );
     }
-    let first = whole(Choice::Raw, raw_cost);
+    let first = whole(Choice::Raw, form.raw_cost());
     if count == 1 {
         return first;
     }
@@ -139,21 +169,19 @@ pub fn cleanup(form: Form, raw_cost: usize, lookup: &Lookup) -> Plan
 fn partial_or(form: Form, best: Plan, lookup: &Lookup) -> Plan
     ensures { Improved (masks form) (paper.partial_or paper.cleanup (masks form)) best result }
 {
-    let Some(mask) = search::best_family(form, lookup) else {
+    let Some(family) = search::best_family(form, lookup) else {
         return best;
     };
-    let rest = form.without(mask, lookup);
-    let plan = cleanup(rest, rest.raw_cost(), lookup);
-    let cost = chain_cost(mask) + plan.cost + 1;
-    if best.cost <= cost {
-        return best;
-    }
-    let choices = Choices {
-        form: Some(Choice::Partial(mask as u8)),
+    let rest = form.without(family.mask, lookup);
+    let plan = cleanup(rest, lookup);
+    let cost = chain_cost(usize::from(family)) + plan.cost + 1;
+    let chosen = Plan {
+        choice: Choice::Partial(family),
         inner: None,
-        rest: plan.choices.form,
+        rest: Some(plan.choice),
+        cost,
     };
-    Plan { choices, cost }
+    cheaper(best, chosen)
 }
 
 // Rule 3: the product of the best cube and the cleaned inner form, in XO with the cleaned remainder unless that is empty.
@@ -164,21 +192,14 @@ fn common_cube(form: Form, best: Plan, lookup: &Lookup) -> Plan
     let Some(found) = best_cube(form, lookup) else {
         return best;
     };
-    let cube = found.cube as usize;
-    let product = product_cost(cube) + found.inner.cost + 1;
-    let rest = form.uncovered(cube, lookup);
+    let product = product_cost(found.cube) + found.inner.cost + 1;
+    let rest = form.uncovered(found.cube.mask, lookup);
     if rest.is_empty() {
-        if best.cost <= product {
-            return best;
-        }
-        return factored(found, product, None);
+        return cheaper(best, factored(found, product, None));
     }
-    let plan = cleanup(rest, rest.raw_cost(), lookup);
+    let plan = cleanup(rest, lookup);
     let cost = product + plan.cost + 1;
-    if best.cost <= cost {
-        return best;
-    }
-    factored(found, cost, plan.choices.form)
+    cheaper(best, factored(found, cost, Some(plan.choice)))
 }
 
 // The cube of the greatest saving, the smallest of equal ones: every mask that two monomials contain is tried in ascending order.
@@ -188,7 +209,7 @@ fn best_cube(form: Form, lookup: &Lookup) -> Option<Best>
 {
     let mut best = None;
     for cube in search::shared_cubes(form).masks() {
-        if let Some(better) = try_cube(form, cube, saved(best), lookup) {
+        if let Some(better) = try_cube(form, Monomial::of(cube), saved(best), lookup) {
             best = Some(better);
         }
     }
@@ -198,9 +219,9 @@ fn best_cube(form: Form, lookup: &Lookup) -> Option<Best>
 // A cube that saves more than `most`, if it is a candidate. Its inner form is cleaned for its cost only where the cube could save more at the least
 // that a form with these flags can cost. The test before that, at no cost, spares most cubes the search for these flags.
 #[cycle(cleanup)]
-fn try_cube(form: Form, cube: usize, most: usize, lookup: &Lookup) -> Option<Best>
-    requires { (0 < cube) × (cube < mask_count) }
-    ensures { Tried (masks form) cube most result }
+#[inline(always)]
+fn try_cube(form: Form, cube: Monomial, most: usize, lookup: &Lookup) -> Option<Best>
+    ensures { Tried (masks form) cube.mask.bits most result }
 {
     if !search::is_cube(form, cube, lookup) {
         return None;
@@ -209,38 +230,49 @@ fn try_cube(form: Form, cube: usize, most: usize, lookup: &Lookup) -> Option<Bes
     if gross <= most {
         return None;
     }
-    let inner = form.stripped(cube, lookup);
+    let inner = inner_form(form, cube, lookup);
     if gross - least_cost(inner) <= most {
         return None;
     }
-    let plan = cleanup(inner, inner.raw_cost(), lookup);
+    let plan = cleanup(inner, lookup);
     let saving = gross - plan.cost;
     if saving <= most {
         return None;
     }
     Some(Best {
-        cube: cube as u8,
+        cube,
         saving,
         inner: plan,
     })
 }
 
-// What the best so far saves, 0 where there is none.
+// A candidate cube's inner form, with what the search for its cost rests on: it has fewer literals, and the numbers of the last clause ascend.
+#[inline]
+fn inner_form(form: Form, cube: Monomial, lookup: &Lookup) -> Form
+    requires { paper.is_cube (masks form) cube.mask.bits ≡ true }
+    ensures stripped { masks result ≡ paper.stripped cube.mask.bits (masks form) }
+    ensures many { 2 ≤ length (masks result) }
+    ensures fewer { raw.literals (masks result) < raw.literals (masks form) }
+    ensures bounds { (least (masks result) ≤ cost (paper.cleanup (masks result)))
+        × (cost (paper.cleanup (masks result)) ≤ gross cube.mask.bits (masks form)) }
+{
+    form.stripped(cube, lookup)
+}
+
+// What the best so far saves, 0 where there is none: document 01's search begins with a saving of 0.
 fn saved(best: Option<Best>) -> usize
     ensures { result ≡ (best_of best).saving }
 {
-    match best {
-        Some(best) => best.saving,
-        None => 0,
-    }
+    best.map_or(0, |best| best.saving)
 }
 
 // What a cube saves before its inner form is paid for: the raw cost of the covered monomials, less 1, less the cube's cost.
-fn gross_saving(form: Form, cube: usize, lookup: &Lookup) -> usize
-    requires { (0 < cube) × (cube < mask_count) × (paper.is_cube (masks form) cube ≡ true) }
-    ensures { result ≡ gross cube (masks form) }
+#[inline(always)]
+fn gross_saving(form: Form, cube: Monomial, lookup: &Lookup) -> usize
+    requires { paper.is_cube (masks form) cube.mask.bits ≡ true }
+    ensures { result ≡ gross cube.mask.bits (masks form) }
 {
-    2 * form.covered_literals(cube, lookup) - 2 - product_cost(cube)
+    2 * form.covered_literals(cube.mask, lookup) - 2 - product_cost(cube)
 }
 
 // No expression that names all flags of a form costs less than their OR chain, and a constant 1 costs 2 more.
@@ -248,7 +280,7 @@ fn least_cost(inner: Form) -> usize
     requires { 2 ≤ length (masks inner) }
     ensures { result ≡ least (masks inner) }
 {
-    chain_cost(inner.flags()) + 2 * inner.constant()
+    chain_cost(inner.flags()) + 2 * usize::from(inner.constant())
 }
 
 // Rule 4: of two monomials of which one is a subset of the other, the smaller without the rest of the larger.
@@ -259,14 +291,13 @@ fn absorption(form: Form, best: Plan) -> Plan
         return best;
     }
     let pair = form.pair();
-    let first = pair.first;
-    let second = pair.second;
+    let first = usize::from(pair.first);
+    let second = usize::from(pair.second);
     if first & second != first {
         return best;
     }
-    let cost = product_cost(first) + product_cost(second - first) + 2 + 2 * form.constant();
-    if best.cost <= cost {
-        return best;
-    }
-    whole(Choice::Absorption, cost)
+    let rest = Monomial::of(second - first);
+    let constant = 2 * usize::from(form.constant());
+    let cost = product_cost(pair.first) + product_cost(rest) + 2 + constant;
+    cheaper(best, whole(Choice::Absorption, cost))
 }

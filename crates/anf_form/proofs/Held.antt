@@ -38,6 +38,7 @@ use Rattle.rules.specs.Coefficient.{word_count, packed, stray}
 use Rattle.rules.specs.Monomial.{form, constant}
 use Rattle.rules.specs.Outcome.{gives}
 use Rattle.packed_anf.specs.Rows.{lent_coefficients}
+use Rattle.packed_anf.specs.declared.lent.Coefficients.{Coefficients}
 use Rattle.packed_anf.proofs.Rows.{given-coefficients, packed-take}
 use Rattle.laws.proofs.transform.Packed.{word_count-room, packed-at, not-stray}
 use Rattle.mask_words.specs.inner.Degree.{of_degree}
@@ -172,15 +173,16 @@ module _ (ws : List ℕ) where
     below-held = subst (Below (2 ^ n)) held-form (below-keep (2 ^ n) (packed ws) (upto (2 ^ n)) (below-upto (2 ^ n)))
 
 -- the words that lent coefficients were found to have hold the form
-pub held-lent : (limit n count : ℕ) (ws us : List ℕ) → gives (count, us) ≡ lent_coefficients limit n ws
-    → length us ≡ word_count count → stray count us ≡ false → form n (packed ws) ≡ held (length us) us
+pub held-lent : {limit : ℕ} (n : ℕ) (ws : List ℕ) (a : Coefficients limit) → gives (a.flags.count, a.words.now) ≡ lent_coefficients limit n ws
+    → form n (packed ws) ≡ held (length a.words.now) a.words.now
 unfolding form
-held-lent limit n count ws us e all clean =
+held-lent {limit} n ws a e =
+    let us = a.words.now in
     let given = given-coefficients limit n ws e in
-    let same : count ≡ n = ap (λ (p : ℕ × List ℕ). p.0) given in
+    let same : a.flags.count ≡ n = ap (λ (p : ℕ × List ℕ). p.0) given in
     let front : us ≡ take (word_count n) ws = ap (λ (p : ℕ × List ℕ). p.1) given in
     let k = word_count n in
     keep-ext (packed ws) (packed (take k ws)) (upto (2 ^ n))
     (λ m h. sym (packed-take k ws m (let u = ltb-true m (2 ^ n) (sym (mem-upto (2 ^ n) m) ∙ h) in omega (arith, u, word_count-room n))))
     ∙ ap (λ (l : List ℕ). form n (packed l)) (sym front) ∙ ap (λ (m : ℕ). form m (packed us)) (sym same)
-    ∙ held-form us count clean ∙ ap (λ (j : ℕ). held j us) (sym all)
+    ∙ held-form us a.flags.count a.none_stray ∙ ap (λ (j : ℕ). held j us) (sym a.all)

@@ -1,6 +1,5 @@
 pub mod Held
 pub mod Injective
-pub mod Rest
 pub mod Bulk
 pub mod Listed
 pub mod Again

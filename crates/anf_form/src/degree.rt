@@ -17,25 +17,24 @@ pub fn list(coefficients: Coefficients<'_, FORM_FLAGS>, out: &mut [u32])
     ensures { out.new ≡ sets out.old 0 (ordered (monomials (held (length coefficients.entry.words.now) coefficients.entry.words.now))) }
 {
     let mut count = 0;
-    for degree in 1..coefficients.flags.count + 1 {
-        count += list_degree(degree, coefficients.words, &mut out[count..]);
+    for degree in 1..=coefficients.flags.count {
+        count += list_degree(degree, coefficients, &mut out[count..]);
     }
 }
 
 // The masks of one degree, at the front of `out`; how many there are.
-fn list_degree(degree: usize, words: &[u64], out: &mut [u32]) -> usize
-    requires few { length words.now ≤ 1024 }
-    requires room { Room (of_degree degree (held (length words.now) words.now)) 0 out.old }
-    ensures { Stored (of_degree degree (held (length words.now) words.now)) 0 result out.old out.new }
+fn list_degree(degree: usize, coefficients: Coefficients<'_, FORM_FLAGS>, out: &mut [u32]) -> usize
+    requires { Room (of_degree degree (held (length coefficients.words.now) coefficients.words.now)) 0 out.old }
+    ensures { Stored (of_degree degree (held (length coefficients.entry.words.now) coefficients.entry.words.now)) 0 result out.old out.new }
 {
     let mut count = 0;
-    for (i, word) in words.iter().enumerate() {
+    for (i, word) in coefficients.words.iter().enumerate() {
         count += list_block(degree, i, *word, &mut out[count..]);
     }
     count
 }
 
-// Those in word i.
+// Those in word i, one of 1,024 at most.
 fn list_block(degree: usize, i: usize, word: u64, out: &mut [u32]) -> usize
     requires few { i < 1024 }
     requires room { Room (of_block degree i word) 0 out.old }
@@ -45,5 +44,5 @@ fn list_block(degree: usize, i: usize, word: u64, out: &mut [u32]) -> usize
     if degree < above {
         return 0;
     }
-    Form::of_coefficients(word).list_degree(degree - above, 64 * i, out, 0)
+    Form::of_coefficients(word).list_degree(degree - above, 64 * i, out)
 }

@@ -33,15 +33,12 @@ pub fn from_anf_coeffs(
 {
     let coefficients = Coefficients::<FORM_FLAGS>::checked(flags, coefficients)?;
     let constant = packed_anf::get(coefficients.words, 0);
-    let count = mask_count(coefficients.words) - (constant as usize);
+    let count = mask_count(coefficients.words) - usize::from(constant);
     if out.len() < count {
         return Err(Reason::ShortOutput.at(count));
     }
     degree::list(coefficients, out);
-    Ok(Contents {
-        constant: constant == 1,
-        count,
-    })
+    Ok(Contents { constant, count })
 }
 
 // The cost of the raw form, from its coefficients: its terms are added up in mask order.
@@ -52,7 +49,7 @@ pub fn raw_anf_cost(flags: usize, coefficients: &[u64]) -> Result<usize, Refusal
     Ok(mask_order::raw_cost(coefficients.words))
 }
 
-// How many coefficients are 1.
+// How many coefficients are 1. The words are lent by themselves: of those in a struct a proof doesn't know that they are below 2^64.
 fn mask_count(words: &[u64]) -> usize
     requires { length words.now ≤ 1024 }
     ensures { result ≡ length (held (length words.now) words.now) }

@@ -31,7 +31,8 @@ fn sum_terms(word: u64, base: usize) -> usize
     sum
 }
 
-// The raw cost of the masks in the words. There is one join fewer than there are terms; with no term the cost is 1.
+// The raw cost of the masks in the words. The limit is that of 16 flags: it was promised, though who calls has one word. There is one join fewer than
+// there are terms; with no term the cost is 1.
 pub fn raw_cost(words: &[u64]) -> usize
     requires { length words.now ≤ 1024 }
     ensures { result ≡ raw_cost (held (length words.now) words.now) }

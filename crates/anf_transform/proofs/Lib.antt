@@ -7,3 +7,4 @@ pub mod Unpacked
 pub mod Injective
 pub mod Chunk
 pub mod Again
+pub mod Filled

@@ -1,9 +1,11 @@
 // The XOR over subsets between words, for the flags from the seventh on: flag 6 + j tells the words apart whose places differ in bit j.
+// It rests on the definitions of one flag's turn (specs, inner).
 ghost use Rattle.std.specs.Prelude.{Bool, ◌≡◌, ℕ, ◌+◌, ◌*◌, ◌^◌, ◌<◌, ◌≤◌, length};
 ghost use Rattle.anf_transform.specs.inner.Change.{Changed};
 ghost use Rattle.anf_transform.specs.inner.Flag.{pair_xor, joined, lowest, Holds};
 
-// Each of the last `step` words takes in the word `step` places before it.
+// Each of the last `step` words takes in the word `step` places before it. That one has an index, because of the words that `iter_mut` lends to a
+// `zip` a proof knows no value afterwards.
 fn join_halves(words: &mut [u64], step: usize)
     requires { length words.old ≡ 2 * step }
     ensures { Changed step (2 * step) (pair_xor step words.old) words.old words.new }

@@ -1,5 +1,5 @@
 // The XOR over subsets inside each word, where a word holds the coefficients of six flags. Each of the six lines adds one flag: the coefficients
-// without it, which the mask picks, are XORed into those with it.
+// without it, which the mask picks, are XORed into those with it. It rests on the definitions of one flag's turn (specs, inner).
 ghost use Rattle.std.specs.Prelude.{◌≡◌, length, get_or};
 ghost use Rattle.anf_transform.specs.inner.Change.{Changed};
 ghost use Rattle.anf_transform.specs.inner.Flag.{in_word};

@@ -10,7 +10,7 @@ ghost use Rattle.rules.specs.Table.{entry};
 use packed_anf::lent::Entries;
 use rules::{FORM_FLAGS, FormFlags};
 
-// The low bits of the entries, as one word.
+// The low bits of the entries, as one word. By `mask_words::chosen` the test would be a closure with two clauses, no shorter than the loop.
 #[inline]
 pub fn pack_word(entries: &[u64]) -> u64
     requires { length entries.now ≤ 64 }

@@ -3,9 +3,9 @@
 --   stored_more   == one more number is one more store, after those before it
 use mathlib.Core.List.{List, [], ◌∷◌, ◌++◌}
 use mathlib.Core.Path.{◌≡◌, refl, sym, ap, ◌∙◌}
-use Prim.Native.Nat.{ℕ, ◌+◌, ◌≤◌, ◌<◌}
+use Prim.Native.Nat.{ℕ, ◌+◌}
 use native.Mathlib.Omega.{arith}
-use lib.ListN.{length, take, set, get_or, length-append}
+use lib.ListN.{length, set, length-append}
 use lib.Seq.{take_at, take_all, get_or-append_seam}
 use Rattle.answer_block.specs.Block.{stored}
 use Rattle.answer_block.proofs.Stored.{stored_step}

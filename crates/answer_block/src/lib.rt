@@ -4,12 +4,13 @@
 
 ghost use Rattle.std.specs.Prelude.{◌≡◌};
 ghost use Rattle.rules.specs.Refusal.{outcome_of};
-ghost use Rattle.answer_block.specs.Block.{Answers, stored};
+ghost use Rattle.answer_block.specs.Block.{Answers, or_end, stored};
 ghost use Rattle.answer_block.specs.Numbers.{alone};
 
 use rules::Refusal;
 
-// Stores what a call answers: a result's numbers, or a refusal's place alone. It returns what the call returns: 0, or the refusal's number.
+// Stores what a call answers: a result's numbers, or a refusal's place alone. It returns what the call for C returns, a number: 0 where nothing was
+// refused, or the refusal's.
 #[inline]
 pub fn answer<const N: usize>(block: &mut [u64], answer: Result<[u64; N], Refusal>) -> u64
     ensures { Answers (λ l. l) (outcome_of (λ l. l) answer.entry) block.old result block.new }
@@ -23,6 +24,17 @@ pub fn answer<const N: usize>(block: &mut [u64], answer: Result<[u64; N], Refusa
             store(block, [refusal.place as u64]);
             refusal.number()
         }
+    }
+}
+
+// The same of a reading, which at the end tells 0 alone, as both enums of kinds for C have it.
+#[inline]
+pub fn reading<const N: usize>(block: &mut [u64], read: Result<Option<[u64; N]>, Refusal>) -> u64
+    ensures { Answers or_end (outcome_of (λ o. o) read.entry) block.old result block.new }
+{
+    match read.transpose() {
+        None => answer(block, Ok([0])),
+        Some(read) => answer(block, read),
     }
 }
 
@@ -42,7 +54,9 @@ pub fn count(number: usize) -> [u64; 1]
     alone(number as u64)
 }
 
-// Each number is stored by itself: with `copy_from_slice` a short call took twice as long when measured (costing three records, 74 for 37 ns).
+// Each number is stored by itself: with `copy_from_slice` a short call took twice as long when measured (costing three records, 74 for 37 ns; costing
+// at 3 flags is at 55 beside the original's 56). And after `block.iter_mut().zip(numbers)` nothing is known of the block: the library says so of
+// every adapter of `iter_mut`.
 #[inline]
 fn store<const N: usize>(block: &mut [u64], numbers: [u64; N])
     ensures { block.new ≡ stored block.old numbers.entry }

@@ -3,7 +3,7 @@
 --   low_first-limit                           == bytes hold a number below that power of 256
 --   low_first-append                          == bytes one after another
 --   low_first-low_bytes, low_bytes-low_first     == each undoes the other
---   number-byte, number-parts, number-again  == the number in one byte of a list; in two parts of it; and written again
+--   number-again                             == the number in a part of a list, written again
 --   sets-low_bytes                            == a number stored byte by byte: one byte more
 use mathlib.Core.List.{List, [], ◌∷◌, ◌++◌}
 use mathlib.Core.Path.{◌≡◌, refl, sym, ap, ◌∙◌}
@@ -12,12 +12,12 @@ use native.Mathlib.Nat.{zero-add, mul_assoc, pow-suc, pow-succ', mod-eq_of_lt, d
 use native.Mathlib.Nat.{add-mul-div_left, add-mul-mod_self_left}
 use native.Mathlib.Omega.{arith}
 use lib.Dec.{lit<}
-use lib.ListN.{length, get_or, set}
+use lib.ListN.{length, set}
 use lib.Seq.{sets}
 use Rattle.bits.specs.LowFirst.{low_first, low_bytes}
 use Rattle.bits.specs.Part.{part}
 use Rattle.bits.specs.Range.{Below}
-use Rattle.bits.proofs.Part.{part-add, part-one, length_part, below-part}
+use Rattle.bits.proofs.Part.{length_part, below-part}
 
 pub low_first-limit : (l : List ℕ) → Below 256 l → low_first l < 256 ^ length l
 unfolding low_first
@@ -45,15 +45,6 @@ low_bytes-low_first (b ∷ l) h =
 -- ---- numbers in a part of a list
 
 module _ (s : List ℕ) (p : ℕ) where
-  pub number-byte : p < length s → low_first (part s p 1) ≡ get_or s p 0
-  unfolding low_first
-  number-byte h = ap low_first (part-one s p h) ∙ omega arith
-
-  pub number-parts : (j k : ℕ) → p + j ≤ length s → low_first (part s p (j + k)) ≡ low_first (part s p j) + 256 ^ j * low_first (part s (p + j) k)
-  number-parts j k h =
-      ap low_first (part-add s p j k) ∙ low_first-append (part s p j) (part s (p + j) k)
-      ∙ ap (λ (n : ℕ). low_first (part s p j) + 256 ^ n * low_first (part s (p + j) k)) (length_part s p j h)
-
   pub number-again : Below 256 s → (k : ℕ) → p + k ≤ length s → low_bytes k (low_first (part s p k)) ≡ part s p k
   number-again small k h =
       ap (λ (n : ℕ). low_bytes n (low_first (part s p k))) (sym (length_part s p k h)) ∙ low_bytes-low_first (part s p k) (below-part s p 256 k small)

@@ -3,12 +3,11 @@
 #![tactic(auto)]
 
 ghost use Rattle.std.specs.Prelude.{◌≡◌};
-ghost use Rattle.std.proofs.Math.Option.{some};
 ghost use Rattle.expr.specs.Answers.{kind_of};
 ghost use Rattle.expr_cost.specs.Answers.{costs_of};
-ghost use Rattle.reader.specs.Answers.{node_of};
+ghost use Rattle.reader.specs.Answers.{found_of};
 ghost use Rattle.rules.specs.Calls;
-ghost use Rattle.answer_block.specs.Block.{Answers};
+ghost use Rattle.answer_block.specs.Block.{Answers, or_end};
 ghost use Rattle.answer_block.specs.Numbers as c;
 
 use answer_block::{alone, count};
@@ -22,27 +21,25 @@ pub fn read(flags: usize, bytes: &[u8], place: usize, answer: &mut [u64]) -> u64
     ensures answer { Answers c.reading (Calls.read flags bytes.now place)
         answer.old result answer.new }
 {
-    match reader::read(flags, bytes, place).transpose() {
-        None => answer_block::answer(answer, Ok([0])),
-        Some(read) => answer_block::answer(answer, read.map(record)),
-    }
+    answer_block::reading(answer, reader::read(flags, bytes, place).map(record))
 }
 
 // A record's kind and payload, the next place and where its operands start.
-fn record(node: Node) -> [u64; 5]
-    ensures { result ≡ c.reading (some (node_of node)) }
+fn record(node: Option<Node>) -> Option<[u64; 5]>
+    ensures { or_end result ≡ c.reading (found_of node) }
 {
+    let node = node?;
     let (kind, payload) = kind_and_payload(node.kind);
-    [
+    Some([
         kind,
         payload,
         node.next as u64,
         node.first as u64,
         node.second as u64,
-    ]
+    ])
 }
 
-// A kind's number, 1 CO, 2 VA, 3 AN, 4 OR, 5 XO, 6 NO, and its payload, 0 where it has none.
+// A kind's number, 1 CO, 2 VA, 3 AN, 4 OR, 5 XO, 6 NO, and its payload, 0 where it has none: C is told these (`enum guide_rules_kind`).
 fn kind_and_payload(kind: Kind) -> (u64, u64)
     ensures { result ≡ (c.kind_number (kind_of kind), c.payload (kind_of kind)) }
 {
@@ -92,7 +89,7 @@ fn costs(costs: Costs) -> [u64; 3]
     [costs.cost as u64, costs.size as u64, costs.depth as u64]
 }
 
-// Which of two expressions is the cheaper: 1 the first, 2 the second, 0 where the flag count or either is refused.
+// Which of two expressions is the cheaper: 1 the first, 2 the second, 0 where the flag count or either is refused. C is told these numbers.
 pub fn cheaper(flags: usize, first: &[u8], second: &[u8]) -> u64
     ensures { result ≡ c.cheaper flags first.now second.now }
 {

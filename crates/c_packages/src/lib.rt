@@ -3,11 +3,10 @@
 #![tactic(auto)]
 
 ghost use Rattle.std.specs.Prelude.{◌≡◌, length};
-ghost use Rattle.std.proofs.Math.Option.{some};
 ghost use Rattle.rules.specs.Outcome.{left};
 ghost use Rattle.rule_package.specs.Calls.{write_rule, read_rule};
-ghost use Rattle.package_reader.specs.Answers.{rule_at_of};
-ghost use Rattle.answer_block.specs.Block.{Answers};
+ghost use Rattle.package_reader.specs.Answers.{found_of};
+ghost use Rattle.answer_block.specs.Block.{Answers, or_end};
 ghost use Rattle.answer_block.specs.Numbers as c;
 
 use answer_block::count;
@@ -31,22 +30,21 @@ pub fn write(flags: usize, table: u64, bytes: &[u8], out: &mut [u8], answer: &mu
 pub fn read(bytes: &[u8], place: usize, answer: &mut [u64]) -> u64
     ensures answer { Answers c.package_reading (read_rule bytes.now place) answer.old result answer.new }
 {
-    match package_reader::read_rule(bytes, place).transpose() {
-        None => answer_block::answer(answer, Ok([0])),
-        Some(read) => answer_block::answer(answer, read.map(rule)),
-    }
+    answer_block::reading(answer, package_reader::read_rule(bytes, place).map(rule))
 }
 
-// That there is a rule, its flag count and table, where its expression starts and how long it is, and the next place.
-fn rule(rule: RuleAt) -> [u64; 6]
-    ensures { result ≡ c.package_reading (some (rule_at_of rule)) }
+// That there is a rule, which `enum guide_rules_package_kind` tells C by 1, its flag count and table, where its expression starts and how long it
+// is, and the next place.
+fn rule(rule: Option<RuleAt>) -> Option<[u64; 6]>
+    ensures { or_end result ≡ c.package_reading (found_of rule) }
 {
-    [
+    let rule = rule?;
+    Some([
         1,
-        rule.flags as u64,
+        rule.flags.count as u64,
         rule.table,
         rule.start as u64,
         rule.length as u64,
         rule.next as u64,
-    ]
+    ])
 }

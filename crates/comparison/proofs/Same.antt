@@ -8,7 +8,7 @@ use Rattle.bits.specs.Range.{same}
 use Rattle.comparison.specs.Outcome.{same_outcome}
 use Rattle.comparison.specs.contracts.outcome.OutcomePartialEq.TheImpl.{ghosts}
 use Rattle.comparison.specs.declared.outcome.Outcome.{Outcome}
-use Rattle.comparison.specs.declared.outcome.Outcome.TheVariants.{Results, Refused}
+use Rattle.comparison.specs.declared.outcome.Outcome.TheVariants.{Results, Refused, Damaged}
 
 pub pointwise-same : (l k : List ℕ) → pointwise nat_eq l k ≡ same l k
 unfolding same
@@ -20,9 +20,14 @@ pointwise-same (x ∷ l) (y ∷ k) = ap (λ (b : Bool). nat_eq x y && b) (pointw
 pub outcome-same : (a b : Outcome) → ghosts.eq a b ≡ same_outcome a b
 unfolding same_outcome
 outcome-same (Results a) (Results b) = pointwise-same a b
-outcome-same (Refused k p) (Refused j q) = refl
-outcome-same (Results a) (Refused k p) = refl
-outcome-same (Refused k p) (Results b) = refl
+outcome-same (Refused k a) (Refused j b) = ap (λ (t : Bool). nat_eq k j && t) (pointwise-same a b)
+outcome-same Damaged Damaged = refl
+outcome-same (Results a) (Refused k b) = refl
+outcome-same (Results a) Damaged = refl
+outcome-same (Refused k a) (Results b) = refl
+outcome-same (Refused k a) Damaged = refl
+outcome-same Damaged (Results b) = refl
+outcome-same Damaged (Refused k b) = refl
 
 module _ {a b x y : Outcome} {r : Bool} where
   pub same-said : r ≡ ghosts.eq x y → x ≡ a → y ≡ b → r ≡ same_outcome a b

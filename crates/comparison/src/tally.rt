@@ -1,4 +1,4 @@
-// The count of what was compared.
+// The count of what was compared. It rests on nothing else: what is counted is a yes or a no.
 ghost use Rattle.std.specs.Prelude.{◌≡◌};
 ghost use Rattle.comparison.specs.Tally.{empty, one_more};
 
@@ -10,17 +10,20 @@ pub struct Tally {
     pub first: Option<u64>,
 }
 
-impl Tally {
-    pub fn none() -> Tally
-        ensures { result ≡ empty }
-    {
+// Not derived: a derived default says its parts one by one, and each count that starts from it would need a lemma to be `empty`.
+impl Default for Tally {
+    ghost is_default = { λ t. t ≡ empty };
+
+    fn default() -> Tally {
         Tally {
             compared: 0,
             differences: 0,
             first: None,
         }
     }
+}
 
+impl Tally {
     // One more comparison, and what it found.
     pub fn count(&mut self, is_same: bool)
         ensures { self.new ≡ one_more self.old is_same }

@@ -10,10 +10,11 @@ ghost use Rattle.table.specs.Truth.{truth};
 ghost use Rattle.compiler.specs.Answers.{compilation_of, bytes_of};
 ghost use Rattle.compiler.specs.Truth.{compile_truth};
 
+use anf_cleanup::Choices;
 use mask_words::Lookup;
 use packed_anf::lent::Entries;
 use postfix::Postfix;
-use rules::{RULE_FLAGS, Reason, Refusal};
+use rules::{BYTE_LIMIT, RULE_FLAGS, Reason, Refusal};
 use table::Table;
 
 // What was written: the counts of bytes and records, the cost, and the cost of the raw form.
@@ -32,7 +33,7 @@ pub fn build_anf_expr(flags: usize, table: &[u64], out: &mut [u8]) -> Result<Exp
         (bytes_of (Calls.compile flags table.now (length out.old))) }
 {
     let table = Entries::<RULE_FLAGS>::checked(flags, table)?;
-    compile_table(Table::of_entries(table.flags, table.entries), out)
+    compile_table(Table::of_entries(table), out)
 }
 
 // The same for a table by value.
@@ -43,9 +44,10 @@ pub fn compile_table(table: Table, out: &mut [u8]) -> Result<Expression, Refusal
     let lookup = Lookup::new();
     let form = table.form();
     let raw = form.raw_cost();
-    let plan = anf_cleanup::cleanup(form, raw, &lookup);
-    let mut written = Postfix::new();
-    emission::emit(form, plan.choices, &lookup, &mut written);
+    let plan = anf_cleanup::cleanup(form, &lookup);
+    let mut written = Postfix::<BYTE_LIMIT>::new();
+    let choices = Choices::from(plan);
+    emission::emit(form, choices, &lookup, &mut written);
     let bytes = written.bytes();
     if out.len() < bytes.len() {
         return Err(Reason::ShortOutput.at(bytes.len()));

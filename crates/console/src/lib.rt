@@ -8,7 +8,8 @@ ghost use Rattle.rules.specs.Calls;
 ghost use Rattle.rules.specs.Console.{entries, number, result as result_of};
 ghost use Rattle.rules.specs.Refusal.{outcome_of};
 
-use rules::{Reason, Refusal, RuleFlags};
+use packed_anf::lent;
+use rules::Refusal;
 use table::Table;
 
 // The refusal's number at evaluation, or 0.
@@ -61,10 +62,7 @@ fn result(answer: Result<u64, Refusal>) -> u64
 fn examine(flags: usize, table: &[u8], bytes: &[u8]) -> Result<u64, Refusal>
     ensures { outcome_of (λ c. c) result ≡ Calls.examine flags (entries table.now) bytes.now }
 {
-    let flags = RuleFlags::try_from(flags)?;
-    if table.len() / 8 < packed_anf::setting_count(flags) {
-        return Err(Reason::ShortTable.at(0));
-    }
+    let flags = lent::enough_entries(flags, table.len() / 8)?;
     let cost = examiner::examine_table(Table::of_bytes(flags, table), bytes)?;
     Ok(cost as u64)
 }

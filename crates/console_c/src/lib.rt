@@ -1,5 +1,6 @@
-// The console's calls by their names for C, each with the clauses of the call in `console` that it makes. A static library has the functions of one
-// crate, so they stand here. `include/console.h` declares them.
+// The console's calls by their names for C, each with the clauses of the call in `console` that it makes; `include/console.h` declares them. They
+// rest on `console`. A static library exports the functions of one crate, so they stand here together. Their bodies stand below: each must-fail edit
+// checks its whole crate, so that by a rule of this repository a crate with edits stays small (docs/DECISIONS.md, "two layers").
 #![tactic(auto)]
 
 ghost use Rattle.std.specs.Prelude.{◌≡◌};

@@ -18,11 +18,10 @@ use Rattle.rules.specs.Tree.{AN, NO}
 use Rattle.laws.proofs.form.Ordered.{length-ordered}
 use Rattle.form.specs.Masks.{masks}
 use Rattle.form.specs.declared.Form.{Form}
-use Rattle.form.proofs.Masks.{few-masks}
+use Rattle.form.proofs.Masks.{few-masks, pair-bounds}
 use Rattle.anf_cleanup.specs.Plan.{built, Allowed, only}
 use Rattle.anf_cleanup.specs.declared.Choice.TheVariants.{Family, Absorption}
 use Rattle.anf_cleanup.specs.declared.Choices.{Choices}
-use Rattle.anf_cleanup.proofs.Bounds.{pair-bounds}
 use Rattle.anf_cleanup.proofs.Rules.{family-singles, absorption-none, absorption-apart, absorption-tree}
 use Rattle.emission.specs.inner.Emitted.{Meant}
 

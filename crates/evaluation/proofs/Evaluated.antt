@@ -6,7 +6,7 @@
 --   evaluated-walked     == past its two rows evaluation is made of what the walk answers
 use mathlib.Core.Bool.{Bool, true, false, not, beq, ◌&&◌, ◌||◌}
 use mathlib.Core.List.{List}
-use mathlib.Core.Path.{◌≡◌, refl, sym, ap, ap₂, ◌∙◌, subst}
+use mathlib.Core.Path.{◌≡◌, refl, sym, ap, ap₂, ◌∙◌}
 use Prim.Native.Nat.{ℕ}
 use lib.Dec.{lit≤}
 use Rattle.bits.specs.Bit.{◌⊕◌, bit, digit}

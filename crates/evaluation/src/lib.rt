@@ -33,7 +33,7 @@ pub fn evaluate(flags: usize, bytes: &[u8], setting: usize) -> Result<u64, Refus
         },
         bytes,
     )?;
-    Ok(seen.value as u64)
+    Ok(u64::from(seen.value))
 }
 
 impl Values for Setting {

@@ -1,23 +1,23 @@
 -- The names of the flags that are set, one flag after another.
 -- It rests on the definitions of `named` and `flag_names` and on the laws of ranges (bits, Range).
---   flag-none, flag-some     == what is written for a flag that is not set, and for one that is
---   flag-short               == at most two bytes
+--   flag-short               == what is written for a flag has at most two bytes
 --   named_more               == one flag more
 --   length-named             == two bytes a flag at most
---   names-none, names-some   == no flag set, and some
+--   named-first              == the first flag and the others
+--   names-some               == the flags of a word of ones are named
 use mathlib.Core.Bool.{Bool, true, false}
 use mathlib.Core.List.{List, [], ◌∷◌, ◌++◌, append_assoc, append-nil}
 use mathlib.Core.Path.{◌≡◌, refl, sym, ap, ◌∙◌}
-use Prim.Native.Nat.{ℕ, zero, suc, ◌+◌, ◌*◌, ◌/◌, ◌%◌, ◌^◌, ◌≤◌, ◌<◌}
+use Prim.Native.Nat.{ℕ, zero, suc, ◌+◌, ◌*◌, ◌^◌, ◌≤◌, ◌<◌}
 use native.Mathlib.Numerals.{add-one}
 use native.Mathlib.Omega.{arith}
 use lib.ListN.{length, length-append}
-use borrow.Author.Tests.{eq-eqb, ne_eqb}
 use Rattle.bits.specs.Bit.{bit}
 use Rattle.bits.specs.Range.{from, upto, keep}
 use Rattle.bits.specs.Sum.{sum}
 use Rattle.bits.specs.Word.{places}
 use Rattle.bits.proofs.Range.{upto-suc, keep_append}
+use Rattle.bits.proofs.Word.{places-lowest}
 use Rattle.rules.specs.Ascii.{ascii}
 use Rattle.rules.specs.Text.{decimal}
 use Rattle.text.proofs.Decimal.{length-decimal}
@@ -29,14 +29,6 @@ abbrev turn : ℕ → Bool → List ℕ
 turn i b = elim b [ true ↦ ascii " " ++ decimal i | false ↦ [] ]
 
 module _ (w i : ℕ) where
-  pub flag-none : (w / 2 ^ i % 2 ≡ 1 → ⊥) → flag_name w i ≡ []
-  unfolding flag_name bit
-  flag-none n = ap (turn i) (ne_eqb (w / 2 ^ i % 2) 1 n)
-
-  pub flag-some : w / 2 ^ i % 2 ≡ 1 → flag_name w i ≡ ascii " " ++ decimal i
-  unfolding flag_name bit
-  flag-some e = ap (turn i) (eq-eqb (w / 2 ^ i % 2) 1 e)
-
   pub flag-short : i < 10 → length (flag_name w i) ≤ 2
   unfolding flag_name ascii
   flag-short h = go (bit w i)
@@ -81,12 +73,10 @@ length-named (suc k) w h =
       flag-short w k (omega arith),
     )
 
-pub names-none : (l : List ℕ) → length (named l) ≡ 0 → named l ++ ascii " none" ≡ flag_names l
-unfolding flag_names sum ascii
-names-none [] e = refl
-names-none (i ∷ l) e = absurd (omega arith)
+pub named-first : {ls l : List ℕ} {i : ℕ} → ls ≡ i ∷ l → ascii " " ++ decimal i ++ named l ≡ named ls
+unfolding sum
+named-first e = sym (ap named e)
 
-pub names-some : (l : List ℕ) → (length (named l) ≡ 0 → ⊥) → named l ≡ flag_names l
-unfolding flag_names sum
-names-some [] n = absurd (n refl)
-names-some (i ∷ l) n = refl
+pub names-some : (w : ℕ) → w < 2 ^ 64 → (w ≡ 0 → ⊥) → named (places 64 w) ≡ flag_names (places 64 w)
+unfolding flag_names
+names-some w h n = ap named (places-lowest 64 w (omega (arith, n)) h) ∙ sym (ap flag_names (places-lowest 64 w (omega (arith, n)) h))

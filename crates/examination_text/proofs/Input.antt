@@ -3,12 +3,12 @@
 --   page-long, page-lines            == input that is too long, and other input
 --   lines-none, lines-one, lines_two, lines-four, lines-more == other parts than two lines and nothing behind them
 --   lines-all, length-second         == two lines, the second no longer than the input
---   table_none, table-ragged, table-rule == no flag count, or no digits; a table
+--   table-no_digits, table-rule == no flag count, or no digits; a table
 --   rule-none, rule-verdict          == no records; records
 --   page-front                       == the first 4096 bytes decide
 use mathlib.Core.Bool.{Bool, true, false}
 use mathlib.Core.List.{List, [], ◌∷◌, ◌++◌}
-use mathlib.Core.Option.{none, some}
+use mathlib.Core.Option.{Option, none, some}
 use mathlib.Core.Path.{◌≡◌, refl, sym, ap, ◌∙◌}
 use Prim.Native.Nat.{ℕ, ◌≤◌, ◌<◌}
 use native.Mathlib.Decide.{dec_lt}
@@ -118,18 +118,25 @@ abbrev by_records : ℕ → List ℕ → List (List ℕ) → Bool → List ℕ
 by_records n table ts b = elim b [ true ↦ verdict_text n table ts (examine n table (expression ts)) ++ ascii "\n" | false ↦ not_rule ]
 
 module _ (one two : List ℕ) where
-  pub table_none : flags_of (length one) ≡ none → of_table one two (flags_of (length one)) ≡ not_table
+  table_none : flags_of (length one) ≡ none → of_table one two (flags_of (length one)) ≡ not_table
   unfolding of_table
   table_none e = ap (of_table one two) e
 
   module _ (n : ℕ) (e : flags_of (length one) ≡ some n) where
-    pub table-ragged : all is_digit one ≡ false → of_table one two (flags_of (length one)) ≡ not_table
+    table-ragged : all is_digit one ≡ false → of_table one two (flags_of (length one)) ≡ not_table
     unfolding of_table
     table-ragged q = ap (of_table one two) e ∙ ap (by_digits n one two) q
 
     pub table-rule : all is_digit one ≡ true → of_table one two (flags_of (length one)) ≡ of_rule n (values one) (record_texts two)
     unfolding of_table
     table-rule q = ap (of_table one two) e ∙ ap (by_digits n one two) q
+
+  pub table-no_digits : ((n : ℕ) → flags_of (length one) ≡ some n → all is_digit one ≡ false) → of_table one two (flags_of (length one)) ≡ not_table
+  table-no_digits h = go (flags_of (length one)) refl
+    where
+      go : (o : Option ℕ) → flags_of (length one) ≡ o → of_table one two (flags_of (length one)) ≡ not_table
+      go none e = table_none e
+      go (some n) e = table-ragged n e (h n e)
 
 module _ (n : ℕ) (table : List ℕ) (ts : List (List ℕ)) where
   pub rule-none : all is_record ts ≡ false → of_rule n table ts ≡ not_rule

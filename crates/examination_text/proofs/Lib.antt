@@ -2,6 +2,7 @@ pub mod Split
 pub mod Records
 pub mod Flags
 pub mod Reasons
+pub mod Short
 pub mod Input
 pub mod Example
 pub mod Rows

@@ -6,7 +6,7 @@
 --   length-bytes                     == as many as the text has
 --   texts-none, texts-some           == the empty line has no record; another has its parts at spaces
 --   length-texts                     == no more records than bytes and one
---   rule-first, expression-first     == the first record of a rule, and its bytes
+--   rule-first, expression-first     == all are records by the first and the others, and the bytes of the first
 --   length-parts, length-expression  == no more than the bytes, or the line, have
 --   number-here, number_more         == the place lies in the first record's bytes, or behind them
 use mathlib.Core.Bool.{Bool, true, false, ◌&&◌, and-false}
@@ -22,7 +22,6 @@ use Rattle.bits.specs.Range.{all}
 use Rattle.bits.specs.Sum.{sum}
 use Rattle.bits.proofs.Truth.{and-true-l, and_true_r}
 use Rattle.examination_text.specs.Notation.{attach, split, record_texts, is_capital, is_numeral, is_record, record_bytes, expression, record_of}
-use Rattle.text.proofs.TableDigits.{all-first}
 use Rattle.examination_text.proofs.Split.{length-split}
 
 -- the length, and the bytes
@@ -113,8 +112,9 @@ unfolding expression sum
 expression-more t ts = refl
 
 module _ {ls ts : List (List ℕ)} {t : List ℕ} (e : ls ≡ t ∷ ts) where
-  pub rule-first : all is_record ls ≡ true → (is_record t ≡ true) × (all is_record ts ≡ true)
-  rule-first a = all-first is_record t ts (ap (all is_record) (sym e) ∙ a)
+  pub rule-first : (b : Bool) → is_record t ≡ b → all is_record ls ≡ (b && all is_record ts)
+  unfolding all
+  rule-first b h = ap (all is_record) e ∙ ap (λ (c : Bool). c && all is_record ts) h
 
   pub expression-first : expression ls ≡ record_bytes t ++ expression ts
   expression-first = ap expression e ∙ expression-more t ts

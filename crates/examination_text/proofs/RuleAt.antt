@@ -8,7 +8,7 @@
 --   length-piece                     == as many bytes as the part has
 --   number-last, number-here, number_more == the number of the record of a place
 use mathlib.Core.Bool.{Bool, true, false, ◌&&◌}
-use mathlib.Core.List.{List, [], ◌∷◌, ◌++◌, append-nil}
+use mathlib.Core.List.{List, [], ◌++◌, append-nil}
 use mathlib.Core.Path.{◌≡◌, refl, sym, ap, ◌∙◌}
 use Prim.Native.Nat.{ℕ, suc, ◌+◌, ◌-◌, ◌≤◌, ◌<◌}
 use native.Mathlib.Omega.{arith}
@@ -18,7 +18,7 @@ use borrow.Author.Tests.{lt-ltb, le-ltb}
 use Rattle.bits.specs.Range.{all}
 use Rattle.bits.specs.Sum.{sum}
 use Rattle.bits.proofs.Truth.{and-true-l}
-use Rattle.examination_text.specs.Notation.{split, record_texts, is_record, record_bytes, expression, record_of}
+use Rattle.examination_text.specs.Notation.{split, is_record, record_bytes, expression, record_of}
 use Rattle.examination_text.specs.inner.PartAt.{others, Part}
 use Rattle.examination_text.proofs.Records.{length-bytes}
 use Rattle.examination_text.proofs.PartsAt.{part-last, part-more, length_part}

@@ -7,50 +7,51 @@ mod notation;
 mod parts;
 mod verdict;
 
-ghost use Rattle.std.specs.Prelude.{true, ◌≡◌, ◌^◌, ◌≤◌, length};
-ghost use Rattle.bits.specs.Range.{all};
+ghost use Rattle.std.specs.Prelude.{◌≤◌, length};
 ghost use Rattle.rules.specs.Text.{flags_of};
-ghost use Rattle.text.specs.TableDigits.{is_digit, values};
+ghost use Rattle.text.specs.TableDigits.{values};
 ghost use Rattle.text.specs.Page.{Shows};
 ghost use Rattle.examination_text.specs.Notation.{record_texts};
-ghost use Rattle.examination_text.specs.Input.{longest, not_lines, not_table, of_rule, of_table, verdict_page};
+ghost use Rattle.examination_text.specs.Input.{longest, of_rule, of_table, verdict_page};
 
 use crate::parts::Parts;
 use crate::verdict::Rule;
-use rules::RuleFlags;
+use packed_anf::lent::Entries;
 use text::Page;
+use text::table::{Digits, TABLE_DIGITS};
 
 // What the input has at most, in bytes.
 const LONGEST: usize = 4095;
 
-// The page for a table's digits and a line.
-fn rule_page(flags: RuleFlags, digits: &[u8], line: &[u8]) -> Page
-    requires { (length digits.now ≡ 2 ^ flags.count) × (all is_digit digits.now ≡ true) × (length line.now ≤ longest) }
-    ensures { Shows (of_rule flags.count (values digits.now) (record_texts line.now)) result }
+// What is written of input that is too long or not two lines, of a first line that is no table, and of a second that is no rule.
+const TOO_LONG: &[u8] = b"the input is longer than 4095 bytes\n";
+
+const NOT_LINES: &[u8] = b"the input must be two lines: a table's digits, and a rule's records\n";
+
+const NOT_TABLE: &[u8] = b"line 1 must be 1, 2, 4, 8, 16, 32 or 64 digits 0 or 1\n";
+
+const NOT_RULE: &[u8] = b"line 2 must be records such as VA0 VA1 OR, one space between two\n";
+
+// The page for a table's digits and a line. That the line has room is asked for where its records are pushed, and handed down to there: a type for it
+// would be opened again by each use of the line.
+fn rule_page(digits: Digits<'_>, line: &[u8]) -> Page
+    requires { length line.now ≤ longest }
+    ensures { Shows (of_rule digits.entry.flags.count (values digits.entry.bytes.now) (record_texts line.now)) result }
 {
-    if !notation::is_rule(line) {
-        return text::page_of("line 2 must be records such as VA0 VA1 OR, one space between two\n");
-    }
-    let table = text::table::entries(digits);
-    let expression = notation::expression(line);
-    let answer = examiner::examine(flags.count, &table, &expression);
-    let rule = Rule {
-        flags,
-        table: &table,
-        line,
+    let Some(expression) = notation::expression(line) else {
+        return text::page_of(NOT_RULE);
     };
+    let entries = text::table::entries::<TABLE_DIGITS>(digits.bytes);
+    let answer = examiner::examine(digits.flags.count, &entries, &expression);
+    let table = Entries {
+        flags: digits.flags,
+        entries: &entries,
+    };
+    let rule = Rule { table, line };
     let mut page = Page::new();
     rule.push_verdict(&mut page, answer);
-    page.push_str("\n");
+    text::push(&mut page, b"\n");
     page
-}
-
-// The page for a first line that is no table.
-#[tactic(auto, unfolding(rules::specs::Ascii::ascii))]
-fn not_table() -> Page
-    ensures { Shows not_table result }
-{
-    text::page_of("line 1 must be 1, 2, 4, 8, 16, 32 or 64 digits 0 or 1\n")
 }
 
 // The page for the two lines.
@@ -58,21 +59,10 @@ fn lines_page(digits: &[u8], line: &[u8]) -> Page
     requires { length line.now ≤ longest }
     ensures { Shows (of_table digits.now line.now (flags_of (length digits.now))) result }
 {
-    let Some(flags) = text::table::flag_count(digits.len()) else {
-        return not_table();
+    let Some(table) = Digits::of(digits) else {
+        return text::page_of(NOT_TABLE);
     };
-    if !text::table::all_digits(digits) {
-        return not_table();
-    }
-    rule_page(flags, digits, line)
-}
-
-// The page for input that is not two lines.
-#[tactic(auto, unfolding(rules::specs::Ascii::ascii))]
-fn not_lines() -> Page
-    ensures { Shows not_lines result }
-{
-    text::page_of("the input must be two lines: a table's digits, and a rule's records\n")
+    rule_page(table, line)
 }
 
 // The output for the whole input: two lines, each ended by a newline, behind the last of which nothing stands.
@@ -80,7 +70,7 @@ pub fn examine_rule(input: &[u8]) -> Page
     ensures { Shows (verdict_page input.now) result }
 {
     if LONGEST < input.len() {
-        return text::page_of("the input is longer than 4095 bytes\n");
+        return text::page_of(TOO_LONG);
     }
     let mut lines = Parts::of(b'\n', input);
     let (Some(digits), Some(line), Some(rest), None) = (
@@ -89,10 +79,10 @@ pub fn examine_rule(input: &[u8]) -> Page
         lines.next(),
         lines.next(),
     ) else {
-        return not_lines();
+        return text::page_of(NOT_LINES);
     };
     if !rest.is_empty() {
-        return not_lines();
+        return text::page_of(NOT_LINES);
     }
     lines_page(digits, line)
 }

@@ -1,5 +1,6 @@
-// A rule in the printed notation, as it is read: whether its parts are records, the expression's bytes, and the record of a place.
-ghost use Rattle.std.specs.Prelude.{true, ◌≡◌, ◌+◌, ◌++◌, ◌≤◌, length};
+// A rule in the printed notation, as it is read: the expression whose records a line has, and the record of a place. It rests on the parts of a line
+// (parts).
+ghost use Rattle.std.specs.Prelude.{true, false, ◌≡◌, ◌+◌, ◌++◌, ◌≤◌, IfSome, IfNone, length};
 ghost use Rattle.bits.specs.Range.{all};
 ghost use Rattle.examination_text.specs.Input.{longest};
 ghost use Rattle.examination_text.specs.Notation.{is_record, record_texts, record_bytes, expression, record_of};
@@ -37,23 +38,20 @@ fn push_record(bytes: &mut Bytes, text: &[u8])
     }
 }
 
-// Whether the line is records with one space between two.
-pub fn is_rule(line: &[u8]) -> bool
-    ensures { result ≡ all is_record (record_texts line.now) }
-{
-    Parts::records(line).all(|text| is_record(text))
-}
-
-// The expression's bytes.
-pub fn expression(line: &[u8]) -> Bytes
-    requires { (all is_record (record_texts line.now) ≡ true) × (length line.now ≤ longest) }
-    ensures { result.items ≡ expression (record_texts line.now) }
+// The expression's bytes, if the line is records with one space between two.
+pub fn expression(line: &[u8]) -> Option<Bytes>
+    requires { length line.now ≤ longest }
+    ensures some { IfSome result (λ bytes. (all is_record (record_texts line.now) ≡ true) × (bytes.items ≡ expression (record_texts line.now))) }
+    ensures none { IfNone result (all is_record (record_texts line.now) ≡ false) }
 {
     let mut bytes = Bytes::new();
     for text in Parts::records(line) {
+        if !is_record(text) {
+            return None;
+        }
         push_record(&mut bytes, text);
     }
-    bytes
+    Some(bytes)
 }
 
 // The number of the record in whose bytes the place lies.
@@ -62,6 +60,7 @@ pub fn record_number(line: &[u8], place: usize) -> usize
 {
     let mut left = place;
     let mut number = 0;
+    // The count of all is an answer too, for which `enumerate` would want the parts a second time.
     for text in Parts::records(line) {
         number += 1;
         if left < text.len() {

@@ -1,5 +1,5 @@
-// Bytes taken apart at a separator. std's `split` tells its parts through the test that a closure computes, and makes one empty part of the empty
-// line, which has no record; these parts are told by the separator alone.
+// Bytes taken apart at a separator. std's `split` makes one empty part of the empty line, which has no record, so that each of the two loops over
+// records would ask for the empty line first; here one iterator serves lines and records. It rests on std's `position`.
 ghost use Rattle.std.specs.Prelude.{◌≡◌, ◌==◌};
 ghost use Rattle.std.specs.List.{position};
 ghost use Rattle.std.specs.Iterator.{YieldsFirstRef, item_count};

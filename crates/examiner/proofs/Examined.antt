@@ -40,7 +40,7 @@ use Rattle.walk.specs.Walked.{walked}
 use Rattle.walk.specs.declared.Seen.{Seen}
 use Rattle.table.specs.Truth.{truth, table_of, first, difference_of}
 use Rattle.table.specs.declared.Table.{Table}
-use Rattle.table.proofs.Truth.{keep-settings, truth-table_of, form-ext}
+use Rattle.table.proofs.Truth.{keep-settings, truth-tabled, form-ext}
 use Rattle.examiner.specs.Examined.{examine_truth}
 use Rattle.examiner.specs.Inner.{verdict, judgment}
 use Rattle.examiner.proofs.Settings.{bit-values}
@@ -95,7 +95,7 @@ pub examine-table : (n : Flags 6) (table s : List ℕ) → 2 ^ n.count ≤ lengt
     → examine_truth t.flags.count (truth t) s ≡ examine n.count table s
 examine-table n table s enough t e =
     ap (λ (x : Table). examine_truth x.flags.count (truth x) s) e
-    ∙ examine-entries n.count n.within table s enough (truth (table_of n (entry table))) (truth-table_of n (entry table))
+    ∙ examine-entries n.count n.within table s enough (truth (table_of n (entry table))) (truth-tabled n (entry table))
 
 -- ---- the verdict
 

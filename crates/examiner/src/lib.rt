@@ -1,5 +1,6 @@
 // The examiner: whether an expression, whoever wrote it, is well formed, agrees with its table at every setting and costs no more than the raw
-// form. It walks the bytes once, with all settings of the table side by side in one word. It rests on `walk`, `lanes` and `table`.
+// form. All settings of the table stand side by side in one word, so that one walk over the bytes serves them all; a second follows where the first
+// fills its short stack. It rests on `walk`, `lanes` and `table`.
 #![tactic(auto)]
 
 ghost use Rattle.std.specs.Prelude.{◌≡◌};
@@ -11,7 +12,8 @@ ghost use Rattle.examiner.specs.Examined.{examine_truth};
 ghost use Rattle.examiner.specs.Inner.{judgment};
 
 use lanes::Lanes;
-use rules::{Reason, Refusal, RuleFlags};
+use packed_anf::lent::Entries;
+use rules::{RULE_FLAGS, Reason, Refusal, RuleFlags};
 use table::Table;
 use walk::Seen;
 
@@ -19,25 +21,22 @@ use walk::Seen;
 pub fn examine(flags: usize, table: &[u64], bytes: &[u8]) -> Result<usize, Refusal>
     ensures { examination_of result ≡ Calls.examine flags table.now bytes.now }
 {
-    let flags = RuleFlags::try_from(flags)?;
-    if table.len() < packed_anf::setting_count(flags) {
-        return Err(Reason::ShortTable.at(0));
-    }
-    examine_table(Table::of_entries(flags, table), bytes)
+    let table = Entries::<RULE_FLAGS>::checked(flags, table)?;
+    examine_table(Table::of_entries(table), bytes)
 }
 
 // The same against the table that a word holds, bit s for setting s.
 pub fn examine_word(flags: RuleFlags, word: u64, bytes: &[u8]) -> Result<usize, Refusal>
     ensures { examination_of result ≡ Calls.examine flags.count (word_table flags.count word) bytes.now }
 {
-    examine_table(Table::of_word(flags, word), bytes)
+    examine_table(Table { flags, bits: word }, bytes)
 }
 
 // The same against a table by value.
 pub fn examine_table(table: Table, bytes: &[u8]) -> Result<usize, Refusal>
     ensures { examination_of result ≡ examine_truth table.flags.count (truth table) bytes.now }
 {
-    let words = table::flag_words();
+    let words = mask_words::flag_words();
     let lanes = Lanes {
         flags: table.flags,
         words: &words,

@@ -6,7 +6,7 @@
 --   over-two                         == over two operands no record is
 use mathlib.Core.Bool.{Bool, true, false}
 use mathlib.Core.List.{List}
-use mathlib.Core.Path.{◌≡◌, refl, ap, ◌∙◌}
+use mathlib.Core.Path.{◌≡◌, refl, sym, ap, ◌∙◌}
 use Prim.Native.Nat.{ℕ, ◌+◌, ◌*◌, ◌≤◌, ◌<◌}
 use native.Mathlib.Nat.{add-zero}
 use native.Mathlib.Omega.{arith}
@@ -59,9 +59,10 @@ module _ (n : ℕ) (s : List ℕ) (p : ℕ) where
     unfolding record_over record_at
     over-short k = rw (lt-ltb (length s) (p + 2) k, record_at)
 
-    pub over-mark : (m : ℕ) → p + 2 ≤ length s → get_or s p 0 * 256 + get_or s (p + 1) 0 ≡ m → record_over n s d p ≡ by_mark m then over d p
+    pub over-mark : {m k : ℕ} → p + 2 ≤ length s → m ≡ get_or s p 0 * 256 + get_or s (p + 1) 0 → m ≡ k
+        → record_over n s d p ≡ by_mark k then over d p
     unfolding record_over
-    over-mark m h e = ap (λ (o : Outcome Found). o then over d p) (record-mark h ∙ ap by_mark e)
+    over-mark h e f = ap (λ (o : Outcome Found). o then over d p) (record-mark h ∙ ap by_mark (sym e ∙ f))
 
     loaded-over : (short fits : Bool) (k : Kind) → operand_count k ≡ 0
         → refuse short bad_payload p (elim fits [ true ↦ gives (record { kind = k; next = p + 3 }) | false ↦ refuses bad_payload p ]) then over d p

@@ -9,18 +9,19 @@ ghost use Rattle.expr.specs.Inner.{or_of, record_over, operator_at, constant_at,
 
 use rules::{Reason, Refusal};
 
-// The marks: two ASCII letters as one number, the first letter high.
-const CO: u16 = 0x434f;
+// The marks: two letters as one number. A `match` over the letters themselves, as a slice, was proved, and costing at four flags took 116 ns with it,
+// longer than the original's 114, where by a `match` over these numbers it took 101 beside the original's 107.
+const CO: u16 = (b'C' as u16) << 8 | b'O' as u16;
 
-const VA: u16 = 0x5641;
+const VA: u16 = (b'V' as u16) << 8 | b'A' as u16;
 
-const AN: u16 = 0x414e;
+const AN: u16 = (b'A' as u16) << 8 | b'N' as u16;
 
-const OR: u16 = 0x4f52;
+const OR: u16 = (b'O' as u16) << 8 | b'R' as u16;
 
-const XO: u16 = 0x584f;
+const XO: u16 = (b'X' as u16) << 8 | b'O' as u16;
 
-const NO: u16 = 0x4e4f;
+const NO: u16 = (b'N' as u16) << 8 | b'O' as u16;
 
 // What a record is, with its payload.
 #[derive(Clone, Copy, Debug, PartialEq, Eq)]
@@ -98,7 +99,8 @@ fn operator(kind: Kind, few: bool, place: usize, next: usize) -> Result<Record, 
     Ok(Record { kind, next })
 }
 
-// A constant's record: the payload is 0 or 1.
+// A constant's record: the payload is 0 or 1. One function for it and for a flag's was proved in six forms: 64 stars of six flags take 402 to 447 ns
+// with them, where they take 385 to 392 with these two.
 #[inline]
 fn constant(bytes: &[u8], place: usize, left: usize) -> Result<Record, Refusal>
     requires { place + left ≡ length bytes.now }

@@ -5,13 +5,11 @@
 --   costing-refused                    == a refusal of the machine is costing's
 --   costing-gives, costing-refuses     == what costing's two answers say of the tree
 --   costing-walked                     == costing is made of what the walk answers
-use mathlib.Core.Bool.{Bool}
 use mathlib.Core.List.{List}
 use mathlib.Core.Path.{◌≡◌, sym, ap, ◌∙◌}
-use Prim.Native.Nat.{ℕ, ◌-◌, ◌≤◌, ◌<◌}
+use Prim.Native.Nat.{ℕ, ◌≤◌}
 use lib.Dec.{ltb}
-use lib.ListN.{length, get_or}
-use borrow.Author.Tests.{lt-ltb, le-ltb}
+use borrow.Author.Tests.{le-ltb}
 use Rattle.rules.specs.Calls.{Costs, parse, costing}
 use Rattle.rules.specs.Limits.{rule_flags, too_many_flags}
 use Rattle.rules.specs.Machine.{made}

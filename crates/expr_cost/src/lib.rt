@@ -34,7 +34,7 @@ pub fn compute_cost(flags: usize, bytes: &[u8]) -> Result<Costs, Refusal>
     Ok(Costs {
         cost: seen.cost,
         size: seen.size,
-        depth: seen.value as usize,
+        depth: usize::from(seen.value),
     })
 }
 

@@ -3,8 +3,9 @@
 --   digit_word j          == the word whose bit m is binary digit j of the count of ones of m, for j below 3 and m below 64
 --   literals-digits      == literals are counted digit by digit
 --   literals-le          == they are few
---   raw-some             == the raw cost of a form that has a mask
-use mathlib.Core.Bool.{Bool, true}
+--   raw-some, raw-full   == the raw cost of a form that has a mask; so by the answer of `is_empty`
+--   constant-digit       == a form's constant as a number, by the answer of `constant`
+use mathlib.Core.Bool.{Bool, true, false}
 use mathlib.Core.List.{[], ◌∷◌}
 use mathlib.Core.Path.{◌≡◌, refl, sym, ap, ◌∙◌}
 use Prim.Native.Nat.{ℕ, suc, ◌+◌, ◌*◌, ◌^◌, ◌≤◌, ◌<◌}
@@ -14,11 +15,13 @@ use lib.Bits.{bit_and, and_le_l}
 use lib.Count.{ones, ones-le}
 use lib.Dec.{eqb}
 use lib.ListN.{length, get_or}
-use borrow.Author.Tests.{eqb-true, lt-ltb}
+use borrow.Author.Tests.{eqb-true, eqb-false, lt-ltb}
+use mir.Val.{bool_byte}
 use Rattle.bits.specs.Bit.{bit, digit}
 use Rattle.bits.specs.Range.{from, upto, all}
 use Rattle.bits.specs.Sum.{sum, total}
 use Rattle.bits.specs.Word.{places}
+use Rattle.bits.proofs.Bit.{byte-digit}
 use Rattle.bits.proofs.Places.{ones_and, length-total}
 use Rattle.bits.proofs.Range.{all-mem, mem-upto}
 use Rattle.bits.proofs.Sum.{plus-laws, sum-ext, sum-ext-mem, sum-swap}
@@ -28,6 +31,8 @@ use Rattle.bits.proofs.Word.{ascending-places, below-places}
 use Rattle.rules.specs.Form.{literals, raw_cost}
 use Rattle.rules.specs.Monomial.{constant}
 use Rattle.laws.proofs.cost.Cost.{raw-literals}
+use Rattle.form.specs.Masks.{masks}
+use Rattle.form.specs.declared.Form.{Form}
 
 unfoldable pub digit_word : ℕ → ℕ
 digit_word j = get_or (0x6996_9669_9669_6996 ∷ 0x8117_177e_177e_7ee8 ∷ 0xfee8_e880_e880_8000 ∷ []) j 0
@@ -67,3 +72,11 @@ module _ (w : ℕ) (h : w < 2 ^ 64) where
 
   pub raw-some : (length (places 64 w) ≡ 0 → ⊥) → suc (raw_cost (places 64 w)) ≡ 2 * literals (places 64 w) + 2 * digit (constant (places 64 w))
   raw-some p = raw-literals (places 64 w) (ascending-places 64 w) (omega arith)
+
+module _ (f : Form) where
+  pub raw-full : f.word < 2 ^ 64 → {e : Bool} → e ≡ eqb (length (masks f)) 0 → e ≡ false
+      → suc (raw_cost (masks f)) ≡ 2 * literals (masks f) + 2 * digit (constant (masks f))
+  raw-full h e t = raw-some f.word h (eqb-false _ 0 (sym e ∙ t))
+
+  pub constant-digit : {b : Bool} {d : ℕ} → b ≡ constant (masks f) → d ≡ bool_byte b → d ≡ digit (constant (masks f))
+  constant-digit {b} e k = k ∙ byte-digit b ∙ ap digit e

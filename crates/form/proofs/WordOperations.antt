@@ -3,6 +3,7 @@
 -- on the single flags (Flags) and on the laws of covered monomials, families and literals (laws, Covered, Family, Literals).
 --   coefficient-word                             == the coefficient of a mask
 --   monomials-word                               == the monomials
+--   monomials-same                               == so a word that holds them is the form's without its lowest bit
 --   count_word                                   == how many monomials there are
 --   pair-positive, pair-word                     == the two monomials of a form that has two
 --   family-word                                  == whether the form is a whole family
@@ -25,7 +26,7 @@ use Rattle.bits.specs.Word.{places}
 use Rattle.bits.proofs.Mask.{within-le}
 use Rattle.bits.proofs.Quotient.{shift-digit}
 use Rattle.bits.proofs.Range.{keep-ext, keep-keep}
-use Rattle.bits.proofs.Word.{places-lt, ones-places}
+use Rattle.bits.proofs.Word.{places-lt, places-injective, ones-places}
 use Rattle.bits.proofs.Places.{places-and}
 use Rattle.bits.proofs.Sets.{mem-bit, places-and-not, without_zero, places-without_zero, without_zero-lt, places-shr, places-positive, places-two}
 use Rattle.bits.proofs.Sets.{same-places}
@@ -73,33 +74,8 @@ module _ (w : ℕ) (h : w < 2 ^ 64) where
   pub coefficient-word : (m : ℕ) → bit_and (w / 2 ^ m) 1 ≡ digit (mem m (places 64 w))
   coefficient-word m = shift-digit w m ∙ sym (ap digit (mem-bit 64 w m h))
 
-  -- the word without the constant
-  abbrev v : ℕ
-  v = without_zero 64 w
-
-  v-lt : v < 2 ^ 64
-  v-lt = without_zero-lt 64 w h
-
-  pub count_word : ones v ≡ length (monomials (places 64 w))
-  count_word = ones-places 64 v v-lt ∙ ap length (monomials-word w)
-
-  module _ (two : length (monomials (places 64 w)) ≡ 2) where
-    many : length (places 64 v) ≡ 2
-    many = ap length (monomials-word w) ∙ two
-
-    pub pair-positive : 0 < v
-    pair-positive = places-positive 64 v v-lt (omega (arith, many))
-
-    pub pair-word : monomials (places 64 w) ≡ count_trailing_zeros 64 v ∷ count_trailing_zeros 64 (bit_and v (v - 1)) ∷ []
-    pair-word = sym (monomials-word w) ∙ places-two 64 v v-lt many
-
-  pub family-word : (ltb 0 (singles (places 64 w)) && eqb v (subset_word (singles (places 64 w)))) ≡ is_family (places 64 w)
-  unfolding is_family subset_word
-  family-word =
-      let u = singles (places 64 w) in
-      ap (λ (b : Bool). ltb 0 u && b)
-      (sym (same-places 64 v (family u) v-lt (ascending-family u) (below-family u (singles-lt w)))
-      ∙ ap (λ (r : List ℕ). same r (family u)) (monomials-word w))
+  pub count_word : ones (without_zero 64 w) ≡ length (monomials (places 64 w))
+  count_word = ones-places 64 (without_zero 64 w) (without_zero-lt 64 w h) ∙ ap length (monomials-word w)
 
   pub stripped-word : (c : ℕ) → 0 < c → places 64 (bit_and w (superset_word c) / 2 ^ c) ≡ stripped c (places 64 w)
   unfolding stripped
@@ -109,3 +85,22 @@ module _ (w : ℕ) (h : w < 2 ^ 64) where
       let e = containing-word w c ∙ sym (covered-keep c p (places 64 w)) in
       places-shr 64 v c s (λ i b. within-le c i (covered-within c (places 64 w) i (ap (mem i) (sym e) ∙ mem-bit 64 v i s ∙ b)))
       ∙ ap (map (λ m. m - c)) e
+
+-- the word v of the monomials
+module _ (w v : ℕ) (h : v < 2 ^ 64) (e : places 64 v ≡ monomials (places 64 w)) where
+  pub monomials-same : w < 2 ^ 64 → v ≡ without_zero 64 w
+  monomials-same k = places-injective 64 v (without_zero 64 w) h (without_zero-lt 64 w k) (e ∙ sym (monomials-word w))
+
+  module _ (two : length (monomials (places 64 w)) ≡ 2) where
+    pub pair-positive : 0 < v
+    pair-positive = places-positive 64 v h (omega (arith, ap length e))
+
+    pub pair-word : monomials (places 64 w) ≡ count_trailing_zeros 64 v ∷ count_trailing_zeros 64 (bit_and v (v - 1)) ∷ []
+    pair-word = sym e ∙ places-two 64 v h (ap length e ∙ two)
+
+  pub family-word : (ltb 0 (singles (places 64 w)) && eqb v (subset_word (singles (places 64 w)))) ≡ is_family (places 64 w)
+  unfolding is_family subset_word
+  family-word =
+      let u = singles (places 64 w) in
+      ap (λ (b : Bool). ltb 0 u && b)
+      (sym (same-places 64 v (family u) h (ascending-family u) (below-family u (singles-lt w))) ∙ ap (λ (r : List ℕ). same r (family u)) e)

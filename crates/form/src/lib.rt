@@ -1,10 +1,11 @@
-// A form of at most six flags by value: one word, whose bit m is the mask m and whose bit 0 is the constant. Whoever asks a form these questions need
-// not look at its word. Any set of masks is such a word; the cubes that a search tries are one too. It rests on `mask_words`.
+// A form of at most six flags by value: one word, whose bit m is the mask m and whose bit 0 is the constant. What is asked of a form here is promised
+// over its masks; only the cleanup's searches (`search`) look at the word too. Any set of masks is such a word,
+// also the cubes that a search tries. It rests on `mask_words`.
 #![tactic(auto)]
 
 ghost use Rattle.std.specs.Prelude.{◌^◌, not, [], ◌∷◌, map, ◌≡◌, ◌+◌, ◌*◌, ◌<◌, ◌≤◌, eqb, length};
 ghost use Rattle.std.proofs.lemmas.List.Edits.{sets};
-ghost use Rattle.bits.specs.Bit.{bit, within, digit};
+ghost use Rattle.bits.specs.Bit.{bit, within};
 ghost use Rattle.bits.specs.Range.{any, keep, mem};
 ghost use Rattle.bits.specs.Stored.{Room, Stored};
 ghost use Rattle.bits.specs.Sum.{union};
@@ -16,9 +17,8 @@ ghost use Rattle.mask_words.specs.inner.Degree.{of_degree};
 ghost use Rattle.mask_words.specs.Lookup.{mask_count};
 ghost use Rattle.form.specs.Masks.{masks};
 
-use mask_words::{Lookup, Ones};
+use mask_words::{Lookup, Mask, Monomial, Ones};
 
-// Without its lowest bit, `word & !1`, the word has the monomials alone.
 #[derive(Clone, Copy)]
 pub struct Form {
     pub word: u64,
@@ -27,12 +27,13 @@ pub struct Form {
 // Two monomials, ascending.
 #[derive(Clone, Copy)]
 pub struct Pair {
-    pub first: usize,
-    pub second: usize,
+    pub first: Monomial,
+    pub second: Monomial,
 }
 
 impl Form {
     // The form of one word of coefficients.
+    #[inline]
     pub fn of_coefficients(word: u64) -> Form
         ensures { masks result ≡ places mask_count word }
     {
@@ -47,6 +48,13 @@ impl Form {
         Ones::of(self.word)
     }
 
+    // How many masks there are.
+    pub fn size(self) -> usize
+        ensures { (result ≡ length (masks self)) × (result ≤ mask_count) }
+    {
+        self.word.count_ones() as usize
+    }
+
     // Whether there is no mask at all, not even the constant's.
     pub fn is_empty(self) -> bool
         ensures { result ≡ eqb (length (masks self)) 0 }
@@ -56,52 +64,63 @@ impl Form {
 
     // Whether a mask is there.
     #[inline]
-    fn has(self, mask: usize) -> bool
-        requires { mask < mask_count }
-        ensures { result ≡ mem mask (masks self) }
+    fn has(self, mask: Mask) -> bool
+        ensures { result ≡ mem mask.bits (masks self) }
     {
-        (self.word >> mask) & 1 == 1
+        (self.word >> usize::from(mask)) & 1 == 1
     }
 
-    // The constant, 0 or 1.
+    // The constant.
     #[inline]
-    pub fn constant(self) -> usize
-        ensures { result ≡ digit (monomial.constant (masks self)) }
+    pub fn constant(self) -> bool
+        ensures { result ≡ monomial.constant (masks self) }
     {
-        usize::from(self.has(0))
+        self.has(Mask::of(0))
+    }
+
+    // The monomials alone: the form without the constant, which is the lowest bit.
+    #[inline]
+    pub fn monomials(self) -> Form
+        ensures { masks result ≡ monomial.monomials (masks self) }
+    {
+        let word = self.word & !1;
+        Form { word }
     }
 
     // How many monomials there are.
     pub fn count(self) -> usize
         ensures { result ≡ length (monomial.monomials (masks self)) }
     {
-        (self.word & !1).count_ones() as usize
+        self.monomials().size()
     }
 
     // The two monomials of a form that has just two.
     pub fn pair(self) -> Pair
         requires { length (monomial.monomials (masks self)) ≡ 2 }
-        ensures { monomial.monomials (masks self) ≡ result.first ∷ result.second ∷ [] }
+        ensures { monomial.monomials (masks self) ≡ result.first.mask.bits ∷ result.second.mask.bits ∷ [] }
     {
-        let both = self.word & !1;
-        let first = u64::trailing_zeros(both) as usize;
-        let second = u64::trailing_zeros(both & (both - 1)) as usize;
-        Pair { first, second }
+        let both = self.monomials().word;
+        let first = both.trailing_zeros() as usize;
+        let second = (both & (both - 1)).trailing_zeros() as usize;
+        Pair {
+            first: Monomial::of(first),
+            second: Monomial::of(second),
+        }
     }
 
     // The flags that occur as single-flag monomials.
     #[inline]
-    pub fn singles(self) -> usize
-        ensures { result ≡ paper.singles (masks self) }
+    pub fn singles(self) -> Mask
+        ensures { result.bits ≡ paper.singles (masks self) }
     {
         let single = |flag: usize| -> bool
             requires { flag < 6 }
             ensures { result ≡ mem (2 ^ flag) (masks self) }
-        { self.has(1 << flag) };
-        mask_words::chosen(6, single) as usize
+        { self.has(Mask::of(1 << flag)) };
+        Mask::of(mask_words::chosen(6, single) as usize)
     }
 
-    // The flags that occur.
+    // The flags that occur. As a `Mask`, a byte, they were counted in more instructions, at each cube: 5 % of compiling, and the bar is 1 %.
     #[inline]
     pub fn flags(self) -> usize
         ensures { result ≡ union (masks self) }
@@ -132,28 +151,29 @@ impl Form {
         if self.is_empty() {
             return 1;
         }
-        2 * self.literals() + 2 * self.constant() - 1
+        2 * self.literals() + 2 * usize::from(self.constant()) - 1
     }
 
-    // The masks that have that many ones, counted from `base`, from place `at` of `out` on; the place after them.
-    pub fn list_degree(self, degree: usize, base: usize, out: &mut [u32], at: usize) -> usize
-        requires { (base ≤ 65536) × Room (of_degree degree (masks self)) at out.old }
-        ensures { Stored (map (λ m. base + m) (of_degree degree (masks self))) at result out.old out.new }
+    // The masks that have that many ones, counted from `base`, at the front of `out`; how many there are.
+    pub fn list_degree(self, degree: usize, base: usize, out: &mut [u32]) -> usize
+        requires { (base ≤ 65536) × Room (of_degree degree (masks self)) 0 out.old }
+        ensures { Stored (map (λ m. base + m) (of_degree degree (masks self))) 0 result out.old out.new }
     {
-        mask_words::list(self.word & mask_words::with_ones(degree), base, out, at)
+        mask_words::list(self.word & mask_words::with_ones(degree), base, out)
     }
 
     // All terms in the raw form's order, at the front of `out`, by count of ones, then mask: the constant 1 is the mask 0 and comes first. It answers
-    // how many there are.
+    // how many there are. As an `ArrayVec`, which is filled and moved first, they cost a compilation of four flags 2.9 % more instructions: the
+    // bar is 1 %.
     pub fn terms(self, out: &mut [u32]) -> usize
         requires { length (masks self) ≤ length out.old }
         ensures { (result ≡ length (masks self)) × (out.new ≡ sets out.old 0 (monomial.ordered (masks self))) }
     {
-        let mut at = 0;
+        let mut count = 0;
         for degree in 0..7 {
-            at = self.list_degree(degree, 0, out, at);
+            count += self.list_degree(degree, 0, &mut out[count..]);
         }
-        at
+        count
     }
 
     // Whether the monomials are exactly the nonempty subsets of the single flags.
@@ -161,23 +181,21 @@ impl Form {
         ensures { result ≡ paper.is_family (masks self) }
     {
         let singles = self.singles();
-        (0 < singles) & (self.word & !1 == lookup.subsets(singles))
+        (0 < singles.bits) & (self.monomials().word == lookup.subsets(singles))
     }
 
     // The monomials that contain the whole cube, without its flags: a mask that loses the cube's flags moves down by the cube's number.
-    pub fn stripped(self, cube: usize, lookup: &Lookup) -> Form
-        requires { (0 < cube) × (cube < mask_count) }
-        ensures { masks result ≡ paper.stripped cube (masks self) }
+    pub fn stripped(self, cube: Monomial, lookup: &Lookup) -> Form
+        ensures { masks result ≡ paper.stripped cube.mask.bits (masks self) }
     {
-        let covered = self.word & lookup.supersets(cube);
-        let word = covered >> cube;
+        let covered = self.word & lookup.supersets(cube.mask);
+        let word = covered >> usize::from(cube);
         Form { word }
     }
 
     // The total number of flags in the monomials that contain the whole cube.
-    pub fn covered_literals(self, cube: usize, lookup: &Lookup) -> usize
-        requires { (cube < mask_count) }
-        ensures { result ≡ raw.literals (paper.covered cube (masks self)) }
+    pub fn covered_literals(self, cube: Mask, lookup: &Lookup) -> usize
+        ensures { result ≡ raw.literals (paper.covered cube.bits (masks self)) }
     {
         let word = self.word & lookup.supersets(cube);
         let covered = Form { word };
@@ -185,18 +203,16 @@ impl Form {
     }
 
     // The masks that do not contain the whole cube.
-    pub fn uncovered(self, cube: usize, lookup: &Lookup) -> Form
-        requires { (cube < mask_count) }
-        ensures { masks result ≡ keep (λ m. not (within cube m)) (masks self) }
+    pub fn uncovered(self, cube: Mask, lookup: &Lookup) -> Form
+        ensures { masks result ≡ keep (λ m. not (within cube.bits m)) (masks self) }
     {
         let word = self.word & !lookup.supersets(cube);
         Form { word }
     }
 
     // The form without the nonempty subsets of a mask.
-    pub fn without(self, mask: usize, lookup: &Lookup) -> Form
-        requires { (mask < mask_count) }
-        ensures { masks result ≡ keep (λ x. not (mem x (paper.family mask))) (masks self) }
+    pub fn without(self, mask: Mask, lookup: &Lookup) -> Form
+        ensures { masks result ≡ keep (λ x. not (mem x (paper.family mask.bits))) (masks self) }
     {
         let word = self.word & !lookup.subsets(mask);
         Form { word }

@@ -1,6 +1,8 @@
 // The whole library for C: every call of the documents as one function, which `include/guide_rules.h` declares. A call returns the refusal's number,
-// 0 for none, and stores its answer at the front of a lent block of 64-bit numbers: the results, or after a refusal the place alone. A static library
-// has the functions of one crate, so they stand here, each with the clauses of the call in `c_tables`, `c_expressions` or `c_packages` that it makes.
+// 0 for none, and stores its answer at the front of a lent block of 64-bit numbers: the results, or after a refusal the place alone. They rest on
+// `c_tables`, `c_expressions` and `c_packages`, and each has the clauses of the call there that it makes. A static library exports the functions of
+// one crate, so they stand here together. Their bodies stand below: each must-fail edit checks its whole crate, so that by a rule of this repository
+// a crate with edits stays small (docs/DECISIONS.md, "two layers").
 #![tactic(auto)]
 
 ghost use Rattle.std.specs.Prelude.{◌≡◌, length};

@@ -8,7 +8,7 @@
 use mathlib.Core.Bool.{Bool, true, false, not, ◌&&◌, ◌||◌}
 use mathlib.Core.List.{List}
 use mathlib.Core.Path.{◌≡◌, refl, sym, ap, ap₂, ◌∙◌, subst}
-use Prim.Native.Nat.{ℕ, ◌+◌, ◌-◌, ◌^◌, ◌<◌}
+use Prim.Native.Nat.{ℕ, ◌-◌, ◌^◌, ◌<◌}
 use native.Mathlib.Nat.{lt_of_le_of_lt, sub-le}
 use lib.Bits.{bit_and, bit_or, bit_xor, and_le_l, or_lt, xor_lt}
 use lib.Dec.{lit<, lit≤}

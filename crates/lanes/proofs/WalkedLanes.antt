@@ -16,7 +16,6 @@ use Rattle.rules.specs.Outcome.{gives, refuses}
 use Rattle.rules.specs.Record.{Kind, Constant, Flag, And, Or, Xor, Not, Found, operand_count}
 use Rattle.rules.specs.Stars.{star_values}
 use Rattle.expr.specs.Inner.{or_of}
-use Rattle.expr.proofs.ReadRecord.{read-index}
 use Rattle.reader.specs.Inner.{begun, ended}
 use Rattle.reader.proofs.Costed.{Costed, costed-step}
 use Rattle.reader.proofs.Turn.{Stepped}

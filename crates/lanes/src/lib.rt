@@ -52,7 +52,7 @@ fn word(words: &[u64], i: u8) -> u64
     requires { i < length words.now }
     ensures { result ≡ get_or words.now i 0 }
 {
-    words[i as usize]
+    words[usize::from(i)]
 }
 
 // A constant in all lanes.

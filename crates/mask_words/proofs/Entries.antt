@@ -1,6 +1,6 @@
--- The words about masks of six flags: their bits, their size, and where they stand in the lookup. It rests on the laws of words (bits, Word) and of a
+-- The words about masks of six flags: their bits, their size, and where they stand in the tables. It rests on the laws of words (bits, Word) and of a
 -- mask's nonempty subsets (laws, Family).
---   get_or-subsets, get_or-supersets             == the two halves of the lookup
+--   get_or-subsets, get_or-supersets             == the entries of the two tables
 --   bit-subsets, places-subsets, subsets-lt  == the word of a mask's nonempty subsets: its bits, its places and its size
 --   below-family                             == the subsets of a mask of six flags are below 64
 --   bit-supersets, supersets-lt              == the word of the masks that contain a mask
@@ -11,19 +11,18 @@ use Prim.Native.Nat.{ℕ, ◌+◌, ◌^◌, ◌<◌}
 use native.Mathlib.Nat.{lt_of_le_of_lt}
 use native.Mathlib.Omega.{arith}
 use lib.Dec.{ltb}
-use lib.ListN.{get_or, get_or-append}
-use lib.Seq.{get_or-append-add}
+use lib.ListN.{get_or}
 use Rattle.bits.specs.Bit.{bit, within}
 use Rattle.bits.specs.Range.{upto, mem, Below}
 use Rattle.bits.specs.Word.{places}
 use Rattle.bits.proofs.Truth.{and_true_r}
 use Rattle.bits.proofs.Mask.{within-le}
 use Rattle.bits.proofs.Ascending.{mem_below}
-use Rattle.bits.proofs.Tabulated.{length-map-upto, get_or-map-upto}
+use Rattle.bits.proofs.Tabulated.{get_or-map-upto}
 use Rattle.bits.proofs.Word.{bit_word, word_lt, places-word, bit-word-keep, word-keep-lt}
 use Rattle.rules.specs.Cleanup.{family}
 use Rattle.laws.proofs.form.Family.{mem-family, ascending-family}
-use Rattle.mask_words.specs.Lookup.{subset_word, superset_word, flag_word, lookup_words}
+use Rattle.mask_words.specs.Lookup.{subset_word, superset_word, flag_word}
 
 module _ (u : ℕ) where
   pub bit-subsets : (m : ℕ) → bit (subset_word u) m ≡ mem m (family u)
@@ -31,16 +30,11 @@ module _ (u : ℕ) where
   bit-subsets m = bit_word (family u) m (ascending-family u)
 
   module _ (h : u < 64) where
-    pub get_or-subsets : get_or lookup_words u 0 ≡ subset_word u
-    unfolding lookup_words
-    get_or-subsets =
-        get_or-append (map subset_word (upto 64)) _ 0 u (omega (arith, length-map-upto 64 subset_word)) ∙ get_or-map-upto 64 subset_word u h
+    pub get_or-subsets : get_or (map subset_word (upto 64)) u 0 ≡ subset_word u
+    get_or-subsets = get_or-map-upto 64 subset_word u h
 
-    pub get_or-supersets : get_or lookup_words (64 + u) 0 ≡ superset_word u
-    unfolding lookup_words
-    get_or-supersets =
-        ap (λ (k : ℕ). get_or lookup_words (k + u) 0) (sym (length-map-upto 64 subset_word))
-        ∙ get_or-append-add (map subset_word (upto 64)) _ u 0 ∙ get_or-map-upto 64 superset_word u h
+    pub get_or-supersets : get_or (map superset_word (upto 64)) u 0 ≡ superset_word u
+    get_or-supersets = get_or-map-upto 64 superset_word u h
 
     pub below-family : Below 64 (family u)
     below-family =

@@ -3,8 +3,7 @@
 --   subset_word u     == the nonempty subsets of u
 --   superset_word c   == the masks that contain c
 --   flag_word i       == the masks that have flag i
---   lookup_words      == the words that are looked up by a mask: all subset words, then all superset words
-use Rattle.std.specs.Prelude.{List, map, ◌++◌, ℕ}
+use Rattle.std.specs.Prelude.{ℕ}
 use Rattle.bits.specs.Bit.{bit, within}
 use Rattle.bits.specs.Range.{keep, upto}
 use Rattle.bits.specs.Word.{word}
@@ -21,6 +20,3 @@ superset_word c = word (keep (within c) (upto mask_count))
 
 unfoldable pub flag_word : ℕ → ℕ
 flag_word i = word (keep (λ m. bit m i) (upto mask_count))
-
-unfoldable pub lookup_words : List ℕ
-lookup_words = map subset_word (upto mask_count) ++ map superset_word (upto mask_count)

@@ -10,7 +10,7 @@ use Rattle.rule_package.specs.Calls as paper
 use Rattle.package_reader.specs.declared.RuleAt.{RuleAt}
 
 abbrev pub rule_at_of : RuleAt → paper.RuleAt
-rule_at_of r = record { flags = r.flags; table = r.table; start = r.start; length = r.length; next = r.next }
+rule_at_of r = record { flags = r.flags.count; table = r.table; start = r.start; length = r.length; next = r.next }
 
 abbrev pub found_of : Option RuleAt → math.Option paper.RuleAt
 found_of None = math.none

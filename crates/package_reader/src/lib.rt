@@ -5,8 +5,7 @@
 mod header;
 
 ghost use Rattle.std.specs.Prelude.{◌≢◌, ◌≡◌, ◌+◌, ◌<◌, ◌^◌};
-ghost use Rattle.std.proofs.Math.Option.{some};
-ghost use Rattle.rules.specs.Outcome.{gives, ◌then◌};
+ghost use Rattle.rules.specs.Refusal.{outcome_of};
 ghost use Rattle.rules.specs.declared.refusal.Reason.{Reason};
 ghost use Rattle.rule_package.specs.Calls.{rule_in, in_package, read_rule};
 ghost use Rattle.rule_package.specs.Rule.{examine_rule};
@@ -16,10 +15,11 @@ ghost use Rattle.package_reader.specs.Inner.{Whole, refusal_of};
 use rule_package::PackageFlags;
 use rules::{PACKAGE_LIMIT, Reason, Refusal};
 
-// A rule in a package: its flag count, the word of its table, where its expression starts and how long it is, and the place after it.
+// A rule in a package: its flag count, the word of its table, where its expression starts and how long it is, and the place after it. The
+// documents and C are told these numbers, and a slice would not have its start.
 #[derive(Clone, Copy, Debug, PartialEq, Eq)]
 pub struct RuleAt {
-    pub flags: usize,
+    pub flags: PackageFlags,
     pub table: u64,
     pub start: usize,
     pub length: usize,
@@ -27,6 +27,7 @@ pub struct RuleAt {
 }
 
 // The rule at a place of a package.
+#[tactic(auto, using(crate::proofs::Checked::overlong, crate::proofs::Checked::ended))]
 pub fn read_rule(bytes: &[u8], place: usize) -> Result<Option<RuleAt>, Refusal>
     ensures { rule_reading_of result ≡ read_rule bytes.now place }
 {
@@ -37,21 +38,18 @@ pub fn read_rule(bytes: &[u8], place: usize) -> Result<Option<RuleAt>, Refusal>
         return Ok(None);
     }
     let rule = header::read(bytes, place)?;
-    examined(bytes, rule)
+    examined(bytes, rule)?;
+    Ok(Some(rule))
 }
 
-// A rule whose bytes are whole, once the examiner accepts it.
-fn examined(bytes: &[u8], rule: RuleAt) -> Result<Option<RuleAt>, Refusal>
+// The cost of a rule whose bytes are whole, once the examiner accepts it.
+fn examined(bytes: &[u8], rule: RuleAt) -> Result<usize, Refusal>
     requires { Whole bytes.now (rule_at_of rule) }
-    ensures { rule_reading_of result
-        ≡ (in_package rule.start (examine_rule (rule_in bytes.now (rule_at_of rule))) then (λ c. gives (some (rule_at_of rule)))) }
+    ensures { outcome_of (λ c. c) result ≡ in_package rule.start (examine_rule (rule_in bytes.now (rule_at_of rule))) }
 {
-    let flags = PackageFlags { count: rule.flags };
     let expression = &bytes[rule.start..rule.next];
-    match examiner::examine_word(flags, rule.table, expression) {
-        Ok(_) => Ok(Some(rule)),
-        Err(refusal) => Err(in_package(rule.start, refusal)),
-    }
+    let cost = examiner::examine_word(rule.flags, rule.table, expression);
+    cost.map_err(|refusal| in_package(rule.start, refusal))
 }
 
 // A refusal of the bytes from `at` on, in the package: a place that counts bytes is counted from the package's first byte.

@@ -1,37 +1,39 @@
--- The writer past row 1, and the bytes of a rule as its header with the expression behind it. It rests on the definitions of rule_package and on
--- runs of stores (bits, Stores).
---   write-stray                  == row 17
---   write-examined               == past them, the examination and then the rule's bytes
+-- The writer past the rows 1 and 17, and the bytes of a rule as its header with the expression behind it. It rests on the definitions of
+-- rule_package and on runs of stores (bits, Stores).
+--   write-checked                == past the rows 1 and 17, the examination and then the rule's bytes
 --   rule_bytes-header            == a rule's bytes are its header and its expression
 --   stored-parts                 == a buffer after one copy at its front and one behind it
-use mathlib.Core.Bool.{true, false}
 use mathlib.Core.List.{List, ◌++◌, append_assoc}
 use mathlib.Core.Path.{◌≡◌, refl, sym, ap, ◌∙◌}
-use Prim.Native.Nat.{ℕ, ◌+◌, ◌≤◌, ◌<◌}
+use Prim.Native.Nat.{ℕ, ◌+◌, ◌≤◌}
 use native.Mathlib.Nat.{zero-add}
 use native.Mathlib.Omega.{arith}
+use lib.Dec.{ltb}
 use lib.ListN.{length, take, drop, length-append, length-drop}
 use lib.Seq.{sets, sets-eq, drop-drop}
-use borrow.Author.Tests.{lt-ltb, le-ltb}
 use Rattle.bits.specs.LowFirst.{low_bytes}
 use Rattle.bits.proofs.Stores.{sets-front, sets-append}
+use Rattle.laws.proofs.calls.Outcome.{refuse-then}
 use Rattle.rules.specs.Ascii.{ascii}
 use Rattle.rules.specs.Calls.{fill}
 use Rattle.rules.specs.Limits.{package_flags, too_many_flags, stray_table_bit}
-use Rattle.rules.specs.Outcome.{refuses, ◌then◌}
+use Rattle.rules.specs.Outcome.{Outcome, gives, refuse, ◌then◌}
 use Rattle.rule_package.specs.Calls.{write_rule}
 use Rattle.rule_package.specs.Rule.{Rule, rule_bytes, stray_bit, examine_rule}
 use Rattle.package_writer.specs.Inner.{header}
 
-module _ (r : Rule) (room : ℕ) where
-  module _ (few : r.flags ≤ package_flags) where
-    pub write-stray : stray_bit r.flags r.table ≡ true → write_rule r room ≡ refuses stray_table_bit 0
-    unfolding write_rule
-    write-stray e = rw (le-ltb package_flags r.flags few, e)
+module _ (n w : ℕ) (s : List ℕ) (room : ℕ) where
+  abbrev rule : ℕ → Rule
+  rule m = record { flags = m; table = w; expression = s }
 
-    pub write-examined : stray_bit r.flags r.table ≡ false → write_rule r room ≡ examine_rule r then (λ c. fill room (rule_bytes r))
-    unfolding write_rule
-    write-examined e = rw (le-ltb package_flags r.flags few, e)
+  pub write-checked : {o : Outcome ℕ}
+      → o ≡ refuse (ltb package_flags n) too_many_flags 0 (refuse (stray_bit n w) stray_table_bit 0 (gives n))
+      → (o then (λ m. examine_rule (rule m) then (λ c. fill room (rule_bytes (rule m))))) ≡ write_rule (rule n) room
+  unfolding write_rule
+  write-checked e =
+      let f : ℕ → Outcome (List ℕ) = λ m. examine_rule (rule m) then (λ c. fill room (rule_bytes (rule m))) in
+      ap (λ (q : Outcome ℕ). q then f) e ∙ refuse-then (ltb package_flags n) too_many_flags 0 _ f
+      ∙ ap (refuse (ltb package_flags n) too_many_flags 0) (refuse-then (stray_bit n w) stray_table_bit 0 (gives n) f)
 
 module _ (r : Rule) where
   pub rule_bytes-header : rule_bytes r ≡ header r.flags (length r.expression) r.table ++ r.expression

@@ -26,10 +26,7 @@ pub fn write_rule(
     ensures lent { out.new ≡ left out.old
         (write_rule (record { flags = flags; table = table; expression = expression.now }) (length out.old)) }
 {
-    let flags = PackageFlags::try_from(flags)?;
-    if rule_package::is_stray(flags, table) {
-        return Err(Reason::StrayTableBit.at(0));
-    }
+    let flags = rule_package::checked(flags, table, 0)?;
     examiner::examine_word(flags, table, expression)?;
     put(flags, table, expression, out)
 }

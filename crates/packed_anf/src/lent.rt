@@ -4,10 +4,25 @@ ghost use Rattle.std.specs.Prelude.{◌≡◌, ◌≤◌, ◌^◌, false, ℕ, L
 ghost use Rattle.rules.specs.Coefficient.{word_count, stray};
 ghost use Rattle.rules.specs.Limits.{form_flags};
 ghost use Rattle.rules.specs.Refusal.{outcome_of};
-ghost use Rattle.packed_anf.specs.Rows.{lent_table, lent_coefficients};
+ghost use Rattle.packed_anf.specs.Rows.{enough_entries, lent_table, lent_coefficients};
 
 use rules::flags::Flags;
 use rules::{Reason, Refusal};
+
+// Rows 1 and 2, for a table of so many entries, whatever holds them. Why `LIMIT` has a bound in these clauses: `setting_count`.
+pub fn enough_entries<const LIMIT: usize>(
+    flags: usize,
+    entries: usize,
+) -> Result<Flags<LIMIT>, Refusal>
+    requires { LIMIT ≤ form_flags }
+    ensures { outcome_of (λ f. f.count) result ≡ enough_entries LIMIT flags entries }
+{
+    let flags = Flags::try_from(flags)?;
+    if entries < crate::setting_count(flags) {
+        return Err(Reason::ShortTable.at(0));
+    }
+    Ok(flags)
+}
 
 // A table with an entry for each setting.
 #[derive(Clone, Copy)]
@@ -23,10 +38,7 @@ impl<'a, const LIMIT: usize> Entries<'a, LIMIT> {
         requires { LIMIT ≤ form_flags }
         ensures { outcome_of {B = ℕ × List ℕ} (λ t. (t.flags.count, t.entries.now)) result ≡ lent_table LIMIT flags entries.now }
     {
-        let flags = Flags::try_from(flags)?;
-        if entries.len() < crate::setting_count(flags) {
-            return Err(Reason::ShortTable.at(0));
-        }
+        let flags = enough_entries(flags, entries.len())?;
         Ok(Entries { flags, entries })
     }
 }

@@ -1,18 +1,18 @@
 // Coefficients of an algebraic normal form in a slice of 64-bit words, after `packed_anf.rs`: coefficient m is bit m mod 64 of word m div 64.
-// It rests on the definitions of `rules`.
+// What a call is lent, a table's entries too, is in `lent`. It rests on the definitions of `rules`.
 #![tactic(auto)]
 
 pub mod lent;
 
 ghost use Rattle.std.specs.Prelude.{◌≡◌, ◌/◌, ◌%◌, ◌<◌, ◌≤◌, ◌^◌, length};
 ghost use Rattle.rules.specs.Limits.{form_flags};
-ghost use Rattle.bits.specs.Bit.{digit};
 ghost use Rattle.rules.specs.Coefficient.{word_count, packed, stray};
 ghost use Rattle.packed_anf.specs.Raised.{Raised};
 
 use rules::flags::Flags;
 
-// How many settings that many flags have.
+// How many settings that many flags have. A bound of `LIMIT` is asked for here, below and in `lent`: as a ghost fact of `Flags` it would be asked of
+// `try_from`, which serves every limit and can ask nothing.
 #[inline]
 pub fn setting_count<const LIMIT: usize>(flags: Flags<LIMIT>) -> usize
     requires { LIMIT ≤ form_flags }
@@ -51,13 +51,13 @@ pub fn low_bits<const LIMIT: usize>(flags: Flags<LIMIT>, first: u64) -> u64
     first & ((1 << setting_count(flags)) - 1)
 }
 
-// Coefficient m, as 0 or 1.
+// Whether coefficient m is 1.
 #[inline]
-pub fn get(words: &[u64], m: usize) -> u64
+pub fn get(words: &[u64], m: usize) -> bool
     requires { m / 64 < length words.now }
-    ensures { result ≡ digit (packed words.now m) }
+    ensures { result ≡ packed words.now m }
 {
-    (words[word_index(m)] >> bit_index(m)) & 1
+    (words[word_index(m)] >> bit_index(m)) & 1 == 1
 }
 
 // Coefficient m becomes 1.

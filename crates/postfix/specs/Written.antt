@@ -1,20 +1,19 @@
 -- What has been written, and what a function that writes records leaves behind.
 --   Written              == bytes, and how many records they are
---   Fits l w             == the bytes l fit behind w
+--   Fits n l w           == the bytes l fit behind w, where there is room for n in all
 --   followed w l k       == w, and behind it the bytes l, k records
 --   with_tree w t        == w, and behind it the records of the tree t
 --   linked mark l        == for each flag of l its record and an operator's mark
 --   chained mark l       == the first flag's record, and the further flags so linked
 use Rattle.std.specs.Prelude.{List, [], ◌∷◌, ◌++◌, ℕ, ◌+◌, ◌≤◌, length}
-use Rattle.rules.specs.Limits.{byte_limit}
 use Rattle.rules.specs.Tree.{Tree, VA, write, size}
 
 pub record Written : Type 0 where
   pub bytes : List ℕ
   pub records : ℕ
 
-pub record Fits (l : List ℕ) (w : Written) : Type 0 where
-  pub room : length w.bytes + length l ≤ byte_limit
+pub record Fits (n : ℕ) (l : List ℕ) (w : Written) : Type 0 where
+  pub room : length w.bytes + length l ≤ n
 
 abbrev pub followed : Written → List ℕ → ℕ → Written
 followed w l k = record { bytes = w.bytes ++ l; records = w.records + k }

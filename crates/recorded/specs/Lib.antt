@@ -2,3 +2,4 @@ pub mod Numbers
 pub mod Noise
 pub mod Results
 pub mod Sizes
+pub mod Pattern

@@ -2,14 +2,15 @@
 --   entries_of n   == one entry for each setting
 --   words_of n     == 64 coefficients to a word, rounded up
 --   bytes_of n     == 8 bits to a byte, rounded up
-use Rattle.std.specs.Prelude.{true, false, ℕ, ◌/◌, ◌^◌, leb}
+use Rattle.std.specs.Prelude.{true, false, ℕ, ◌^◌, leb}
+use Rattle.std.specs.Int.{div_ceil}
 use Rattle.rules.specs.Limits.{form_flags}
 
 unfoldable pub entries_of : ℕ → ℕ
 entries_of n = elim (leb n form_flags) [ true ↦ 2 ^ n | false ↦ 0 ]
 
-unfoldable pub words_of : ℕ → ℕ
-words_of n = elim (leb n 6) [ true ↦ 1 | false ↦ entries_of n / 64 ]
+abbrev pub words_of : ℕ → ℕ
+words_of n = div_ceil (entries_of n) 64
 
-unfoldable pub bytes_of : ℕ → ℕ
-bytes_of n = elim (leb n 3) [ true ↦ 1 | false ↦ entries_of n / 8 ]
+abbrev pub bytes_of : ℕ → ℕ
+bytes_of n = div_ceil (entries_of n) 8

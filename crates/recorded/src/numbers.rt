@@ -1,7 +1,10 @@
 // Bits and numbers as the recorded files hold them: bit i is bit i mod 8 of byte i div 8, and a number's low byte is
-// first. Past its end a list reads as 0, as the bits of a coefficient word past the last coefficient must be.
+// first. Past its end a list reads as 0, as the bits of a coefficient word past the last coefficient must be. It rests on
+// the library's numbers in bytes.
 ghost use Rattle.std.specs.Prelude.{◌≡◌, ◌+◌, ◌^◌, ◌≤◌, get_or};
 ghost use Rattle.recorded.specs.Numbers.{bit_at, pair_at, half_at, word_at};
+
+use std::array;
 
 pub fn byte_at(bytes: &[u8], at: usize) -> u8
     ensures { result ≡ get_or bytes.now at 0 }
@@ -15,12 +18,13 @@ pub fn bit_at(bytes: &[u8], i: usize) -> u8
     (byte_at(bytes, i / 8) >> (i % 8)) % 2
 }
 
-// The number in the two bytes from `at` on.
+// The number in the two bytes from `at` on. This and the next two differ in a type: `num_traits::FromBytes` has `from_le_bytes` of each, but its
+// `Bytes` can't be made byte by byte in generic code, so that one function for the three would be no plainer.
 pub fn pair_at(bytes: &[u8], at: usize) -> u16
     requires { at + 2 ≤ 2 ^ 64 }
     ensures { result ≡ pair_at bytes.now at }
 {
-    u16::from_le_bytes([byte_at(bytes, at), byte_at(bytes, at + 1)])
+    u16::from_le_bytes(array::from_fn(|i| byte_at(bytes, at + i)))
 }
 
 // The number in the four bytes from `at` on.
@@ -28,7 +32,7 @@ pub fn half_at(bytes: &[u8], at: usize) -> u32
     requires { at + 4 ≤ 2 ^ 64 }
     ensures { result ≡ half_at bytes.now at }
 {
-    u32::from(pair_at(bytes, at)) + 65536 * u32::from(pair_at(bytes, at + 2))
+    u32::from_le_bytes(array::from_fn(|i| byte_at(bytes, at + i)))
 }
 
 // The number in the eight bytes from `at` on.
@@ -36,5 +40,5 @@ pub fn word_at(bytes: &[u8], at: usize) -> u64
     requires { at + 8 ≤ 2 ^ 64 }
     ensures { result ≡ word_at bytes.now at }
 {
-    u64::from(half_at(bytes, at)) + 0x1_0000_0000 * u64::from(half_at(bytes, at + 4))
+    u64::from_le_bytes(array::from_fn(|i| byte_at(bytes, at + i)))
 }

@@ -16,22 +16,16 @@ pub fn entries(flags: usize) -> usize
     1 << flags
 }
 
-// 64 coefficients to a word, rounded up.
+// 64 coefficients to a word, rounded up. This and `bytes` are one division each: a function of both would only pass the divisor on.
 pub fn words(flags: usize) -> usize
     ensures { (result ≡ words_of flags) × (result ≤ 2 ^ 10) }
 {
-    if flags <= 6 {
-        return 1;
-    }
-    entries(flags) >> 6
+    entries(flags).div_ceil(64)
 }
 
 // 8 bits to a byte, rounded up.
 pub fn bytes(flags: usize) -> usize
     ensures { (result ≡ bytes_of flags) × (result ≤ 2 ^ 13) }
 {
-    if flags <= 3 {
-        return 1;
-    }
-    entries(flags) >> 3
+    entries(flags).div_ceil(8)
 }

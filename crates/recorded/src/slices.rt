@@ -18,7 +18,7 @@ fn set_each<T: Drop, F: Fn(usize) -> T>(list: &mut [T], entry: F)
     }
 }
 
-// A pattern by which a change past a result, or after a refusal, shows.
+// A pattern by which a change past a result, or after a refusal, shows. It is `fill`, kept because the edit zero_for_the_pattern is tried on it.
 pub fn set_pattern(list: &mut [u64], pattern: u64)
     ensures { list.new ≡ replicate (length list.old) pattern }
 {

@@ -18,7 +18,8 @@ use Rattle.rules.specs.Limits.{rule_flags}
 use Rattle.rules.specs.Machine.{turn, finish, run, made}
 use Rattle.rules.specs.Outcome.{Outcome, gives, refuses, refuse}
 use Rattle.rules.specs.Tree.{Tree, size, depth}
-use Rattle.comparison.specs.Outcome.{results, damage}
+use Rattle.comparison.specs.Outcome.{results}
+use Rattle.comparison.specs.declared.outcome.Outcome.TheVariants.{Damaged}
 use Rattle.recorded_calls.specs.Answers.{chosen}
 
 smaller-self : (t : Tree) → smaller t t ≡ false
@@ -103,5 +104,5 @@ module _ (n : ℕ) (a b : List ℕ) {c : List ℕ} (e : c ≡ cheaper_of_two n a
       pub chosen-second : results 2 0 0 0 ≡ chosen n a b
       chosen-second = told (tell-second (came n a b e) full unlike)
 
-      pub chosen-other : (c ≡ b → ⊥) → damage ≡ chosen n a b
+      pub chosen-other : (c ≡ b → ⊥) → Damaged ≡ chosen n a b
       chosen-other f = absurd (f (tell-other (came n a b e) full unlike))

@@ -9,15 +9,15 @@ use lib.ListN.{take, set, replicate}
 use borrow.Author.Tests.{le-leb, lt-leb}
 use Rattle.bits.specs.Range.{upto}
 use Rattle.rules.specs.Calls.{examine, raw_costing}
-use Rattle.comparison.specs.Outcome.{damage}
 use Rattle.comparison.specs.declared.outcome.Outcome.{Outcome}
+use Rattle.comparison.specs.declared.outcome.Outcome.TheVariants.{Damaged}
 use Rattle.recorded.specs.Noise.{noisy}
 use Rattle.recorded.specs.Numbers.{word_at}
 use Rattle.recorded.specs.Results.{number_of}
 use Rattle.recorded.proofs.Part.{part-tabulated}
 use Rattle.recorded_calls.specs.Answers.{within, examined, raw_costed}
 
-within-past : (k : ℕ) (o : Outcome) → 128 < k → damage ≡ within k o
+within-past : (k : ℕ) (o : Outcome) → 128 < k → Damaged ≡ within k o
 unfolding within
 within-past k o h = rw (lt-leb k 128 h, within)
 
@@ -26,11 +26,11 @@ unfolding within
 within-said k o h = rw (le-leb k 128 h, within)
 
 module _ (n k : ℕ) (b : List ℕ) where
-  pub examined-past : (s : List ℕ) → 128 < k → damage ≡ examined n k b s
+  pub examined-past : (s : List ℕ) → 128 < k → Damaged ≡ examined n k b s
   unfolding examined
   examined-past s h = within-past k _ h
 
-  pub raw-past : 128 < k → damage ≡ raw_costed n k b
+  pub raw-past : 128 < k → Damaged ≡ raw_costed n k b
   unfolding raw_costed
   raw-past h = within-past k _ h
 

@@ -11,8 +11,9 @@ use Rattle.std.specs.Prelude.{Bool, true, false, List, [], ◌∷◌, ℕ, leb, 
 use Rattle.std.specs.Int.Bits.{bit_xor}
 use Rattle.rules.specs.Calls.{evaluate, costing}
 use Rattle.rules.specs.Limits.{rule_flags}
-use Rattle.comparison.specs.Outcome.{results, damage, same_outcome}
+use Rattle.comparison.specs.Outcome.{results, same_outcome}
 use Rattle.comparison.specs.declared.outcome.Outcome.{Outcome}
+use Rattle.comparison.specs.declared.outcome.Outcome.TheVariants.{Damaged}
 use Rattle.recorded.specs.Numbers.{pair_at, word_at}
 use Rattle.recorded.specs.Results.{recorded_as, outcome_at, number_of}
 use Rattle.recorded_calls.specs.Answers.{costed_of, examined, raw_costed, chosen, preferred}
@@ -22,7 +23,7 @@ word_of h = take 8 (drop 19 h)
 
 unfoldable pub answers : List ℕ → List ℕ → List ℕ → List Outcome
 answers h a b =
-    damage
+    Damaged
     ∷ number_of (evaluate (word_at h 1) a (word_at h 9))
     ∷ costed_of (costing (word_at h 1) a)
     ∷ examined (word_at h 1) (pair_at h 17) (word_of h) a
@@ -31,7 +32,7 @@ answers h a b =
     ∷ []
 
 unfoldable pub case_of : List ℕ → List ℕ → List ℕ → Outcome
-case_of h a b = elim (leb 38 (length h)) [ true ↦ get_or (answers h a b) (get_or h 0 0) damage | false ↦ damage ]
+case_of h a b = elim (leb 38 (length h)) [ true ↦ get_or (answers h a b) (get_or h 0 0) Damaged | false ↦ Damaged ]
 
 abbrev pub recorded_of : List ℕ → ℕ → ℕ → Outcome
 recorded_of h k x = recorded_as (bit_xor (get_or h 31 0) k) (bit_xor (pair_at h 32) x ∷ pair_at h 34 ∷ pair_at h 36 ∷ 0 ∷ [])

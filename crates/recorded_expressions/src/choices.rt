@@ -11,12 +11,12 @@ use rules::RULE_FLAGS;
 pub fn compares(head: &[u8]) -> bool
     ensures { result ≡ test_agrees head.now }
 {
-    let better = byte_at(head, 16) as usize;
-    calls::comparison(head) == Outcome::Results([better, 0, 0, 0])
+    let better = usize::from(byte_at(head, 16));
+    calls::comparison(head) == Outcome::one(better)
 }
 
-pub fn chooses<'a>(first: &'a [u8], second: &'a [u8], chosen: usize) -> bool
+pub fn chooses(first: &[u8], second: &[u8], chosen: usize) -> bool
     ensures { result ≡ choice_agrees first.now second.now chosen }
 {
-    calls::choice(RULE_FLAGS, first, second) == Outcome::Results([chosen, 0, 0, 0])
+    calls::choice(RULE_FLAGS, first, second) == Outcome::one(chosen)
 }

@@ -20,6 +20,7 @@ use Rattle.rules.specs.declared.refusal.Refusal.{Refusal}
 use Rattle.package_reader.specs.Answers.{rule_reading_of}
 use Rattle.package_reader.specs.declared.RuleAt.{RuleAt}
 use Rattle.package_reader.proofs.Injective.{rule_reading_of-injective}
+use Rattle.comparison.specs.Outcome.{alone}
 use Rattle.comparison.proofs.Told.{answer_of-injective}
 use Rattle.recorded_packages.specs.Readings.{numbers_of}
 use Rattle.recorded_packages.specs.Writings.{written_by}
@@ -45,4 +46,4 @@ pub reading-injective : (a b : Result (Option RuleAt) Refusal) → numbers_of (r
 reading-injective a b e = rule_reading_of-injective a b (numbers_of-injective (rule_reading_of a) (rule_reading_of b) e)
 
 pub written_by-injective : (a b : Result ℕ Refusal) → written_by a ≡ written_by b → a ≡ b
-written_by-injective = answer_of-injective (λ k. (k, 0, 0, 0)) (λ t. t.0) (λ k. refl)
+written_by-injective = answer_of-injective alone (λ l. get_or l 0 0) (λ k. refl)

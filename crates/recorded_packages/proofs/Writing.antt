@@ -6,7 +6,7 @@
 --   agrees-said      == where there is room, the comparison of the call decides
 use mathlib.Core.Bool.{Bool, false, ◌&&◌}
 use mathlib.Core.List.{List}
-use Rattle.std.specs.Prelude.{Result, Err, MatchResult, IsOkAnd}
+use Rattle.std.specs.Prelude.{Result}
 use Rattle.std.proofs.Common.{nat_eq}
 use Rattle.std.specs.Cmp.Lexicographic.{pointwise}
 use mathlib.Core.Path.{◌≡◌, sym, ap, ◌∙◌}
@@ -20,35 +20,31 @@ use Rattle.laws.proofs.calls.Outcome.{length_front}
 use Rattle.rule_package.specs.Calls.{write_rule}
 use Rattle.package_writer.specs.Answers.{writing_of}
 use Rattle.comparison.specs.Called.{comes_to}
-use Rattle.comparison.specs.Outcome.{Four, told, same_outcome}
+use Rattle.comparison.specs.Outcome.{alone, same_outcome}
 use Rattle.comparison.specs.declared.outcome.Outcome.{Outcome}
 use Rattle.comparison.proofs.Called.{came}
-use Rattle.comparison.proofs.Told.{told-of}
+use Rattle.comparison.proofs.Told.{told}
+use Rattle.recorded.specs.Pattern.{byte}
 use Rattle.recorded.specs.Numbers.{word_at}
-use Rattle.recorded_packages.specs.Writings.{rule_of, written_of, outcome_at, pattern, longest, writing_agrees}
+use Rattle.recorded_packages.specs.Writings.{rule_of, written_of, written_by, outcome_at, longest, writing_agrees}
 
-written-told : (out : List ℕ) {o : result.Outcome (List ℕ)} {x : Outcome} {P : ℕ → Four → Type 0} (r : Result ℕ Refusal) (m : Result Four Refusal)
-    → writing_of out r ≡ o → x ≡ told m → MatchResult r (λ k. IsOkAnd m (P k)) (λ e. m ≡ Err e)
-    → ((k : ℕ) (t : Four) → P k t → t ≡ (k, 0, 0, 0)) → x ≡ written_of o
-written-told out r m q g p each =
-    told-of (λ l. (length l, 0, 0, 0)) (λ k. front k out) r m q g p
-    (λ k t f. each k t f ∙ ap (λ (j : ℕ). (j, 0, 0, 0)) (sym (length_front k out)))
+written-told : (out : List ℕ) {o : result.Outcome (List ℕ)} {x : Outcome} (r : Result ℕ Refusal) → writing_of out r ≡ o → x ≡ written_by r
+    → x ≡ written_of o
+written-told out r q e = told (λ l. alone (length l)) (λ k. front k out) r q e (λ k. ap alone (sym (length_front k out)))
 
 module _ (h s l : List ℕ) where
-  module _ (b out : List ℕ) (r : Result ℕ Refusal) (m : Result Four Refusal) {n w : ℕ} (p : n ≡ word_at h 0) (q : w ≡ word_at h 8) where
-    pub wrote : {x e : Outcome} {v : Bool} {P : ℕ → Four → Type 0} →
-        writing_of out r ≡ write_rule (record { flags = n; table = w; expression = s }) (length b) →
-        out ≡ left b (write_rule (record { flags = n; table = w; expression = s }) (length b)) →
-        x ≡ told m → MatchResult r (λ k. IsOkAnd m (P k)) (λ e. m ≡ Err e) → ((k : ℕ) (t : Four) → P k t → t ≡ (k, 0, 0, 0)) →
-        e ≡ outcome_at h → v ≡ (same_outcome x e && pointwise nat_eq out l) →
-        v ≡ comes_to written_of left (write_rule (rule_of h s) (length b)) b (outcome_at h) l
-    wrote f g i z each j c = rw (← q, ← p, ← j) (came written_of left _ _ _ _ (written-told out r m f i z each) g c)
+  pub wrote : (b out : List ℕ) (r : Result ℕ Refusal) {n w : ℕ} {x e : Outcome} {v : Bool} → n ≡ word_at h 0 → w ≡ word_at h 8 →
+      writing_of out r ≡ write_rule (record { flags = n; table = w; expression = s }) (length b) →
+      out ≡ left b (write_rule (record { flags = n; table = w; expression = s }) (length b)) →
+      x ≡ written_by r → e ≡ outcome_at h → v ≡ (same_outcome x e && pointwise nat_eq out l) →
+      v ≡ comes_to written_of left (write_rule (rule_of h s) (length b)) b (outcome_at h) l
+  wrote b out r p q f g i j c = rw (← q, ← p, ← j) (came written_of left _ _ _ _ (written-told out r f i) g c)
 
   pub agrees-past : longest < length l → false ≡ writing_agrees h s l
   unfolding writing_agrees
   agrees-past i = rw (lt-leb (length l) longest i)
 
-  pub agrees-said : (b : List ℕ) {r : Bool} → length l ≤ longest → b ≡ replicate (length l) pattern →
+  pub agrees-said : (b : List ℕ) {r : Bool} → length l ≤ longest → b ≡ replicate (length l) byte →
       r ≡ comes_to written_of left (write_rule (rule_of h s) (length b)) b (outcome_at h) l → r ≡ writing_agrees h s l
   unfolding writing_agrees
-  agrees-said b i e f = rw (le-leb (length l) longest i) (f ∙ rw (e, length-replicate (length l) pattern))
+  agrees-said b i e f = rw (le-leb (length l) longest i) (f ∙ rw (e, length-replicate (length l) byte))

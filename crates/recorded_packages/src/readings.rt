@@ -15,26 +15,26 @@ fn recorded(head: &[u8]) -> [u64; 7]
     ensures { result ≡ numbers_at head.now }
 {
     [
-        byte_at(head, 17) as u64,
-        byte_at(head, 18) as u64,
-        byte_at(head, 19) as u64,
+        u64::from(byte_at(head, 17)),
+        u64::from(byte_at(head, 18)),
+        u64::from(byte_at(head, 19)),
         word_at(head, 20),
-        half_at(head, 28) as u64,
-        pair_at(head, 32) as u64,
-        half_at(head, 34) as u64,
+        u64::from(half_at(head, 28)),
+        u64::from(pair_at(head, 32)),
+        u64::from(half_at(head, 34)),
     ]
 }
 
-// Kind, refusal, flag count, table, start, length, and the next place or that of a refusal.
+// The file's numbers for it: kind, refusal, flag count, table, start, length, and the next place or that of a refusal.
 fn numbers(reading: Result<Option<RuleAt>, Refusal>) -> [u64; 7]
     ensures { result ≡ numbers_of (rule_reading_of reading) }
 {
     match reading {
-        Ok(None) => [0, 0, 0, 0, 0, 0, 0],
+        Ok(None) => [0; 7],
         Ok(Some(rule)) => [
             1,
             0,
-            rule.flags as u64,
+            rule.flags.count as u64,
             rule.table,
             rule.start as u64,
             rule.length as u64,

@@ -7,13 +7,11 @@ ghost use Rattle.comparison.specs.Called.{comes_to};
 ghost use Rattle.recorded_packages.specs.Writings.{rule_of, written_of, outcome_at, writing_agrees};
 
 use comparison::Outcome;
-use comparison::outcome::comes_to;
+use comparison::outcome::{alone, comes_to};
 use package_writer::write_rule;
 use recorded::numbers::{byte_at, pair_at, word_at};
+use recorded::pattern;
 use recorded::results::recorded_as;
-
-// Fills the buffer before the call, so that a change past the rule, or after a refusal, shows.
-const PATTERN: u8 = 0xA5;
 
 // More than any head asks for.
 const ROOM: usize = 2048;
@@ -21,7 +19,8 @@ const ROOM: usize = 2048;
 fn expected(head: &[u8]) -> Outcome
     ensures { result ≡ outcome_at head.now }
 {
-    recorded_as(byte_at(head, 20), [pair_at(head, 21) as usize, 0, 0, 0])
+    let number = u64::from(byte_at(head, 20));
+    recorded_as(number, alone(usize::from(pair_at(head, 21))))
 }
 
 // The rule's length is the result.
@@ -31,8 +30,7 @@ fn asked(head: &[u8], expression: &[u8], out: &mut [u8], after: &[u8]) -> bool
 {
     let flags = word_at(head, 0) as usize;
     let table = word_at(head, 8);
-    let writing = write_rule(flags, table, expression, out);
-    let told = Outcome::from(writing.map(|length| (length, 0, 0, 0)));
+    let told = Outcome::from(write_rule(flags, table, expression, out));
     comes_to(told, out, expected(head), after)
 }
 
@@ -44,6 +42,6 @@ pub fn agrees(head: &[u8], expression: &[u8], after: &[u8]) -> bool
     if room > ROOM {
         return false;
     }
-    let mut out = [PATTERN; ROOM];
+    let mut out = [pattern::BYTE; ROOM];
     asked(head, expression, &mut out[..room], after)
 }

@@ -2,17 +2,18 @@
 -- definitions of specs/Readings.
 --   read_of-injective     == the outcomes of reading
 use mathlib.Core.Bool.{Bool, true, false}
+use mathlib.Core.List.{List}
 use mathlib.Core.Option.{Option, none, some}
 use mathlib.Core.Path.{◌≡◌, refl, ap}
 use Prim.Native.Nat.{ℕ, ◌+◌, ◌-◌, ◌<◌, ◌≤◌}
 use native.Mathlib.Decide.{dec_lt}
 use native.Mathlib.Omega.{arith}
 use lib.Dec.{eqb, ltb}
+use lib.ListN.{get_or}
 use borrow.Author.Tests.{lt-ltb, le-ltb, ne_eqb}
 use Rattle.rules.specs.Machine.{Node}
 use Rattle.rules.specs.Outcome as result
 use Rattle.rules.specs.Record.{Kind, Constant, Flag, And, Or, Xor, Not}
-use Rattle.comparison.specs.Outcome.{Four}
 use Rattle.comparison.proofs.Told.{numbers_of-injective}
 use Rattle.recorded_readings.specs.Readings.{code_of, numbers_of, read_of}
 
@@ -74,8 +75,9 @@ not_end Or = refl
 not_end Xor = refl
 not_end Not = refl
 
-abbrev back : Four → Option Node
-back t = pick (eqb t.0 255) none (some (record { kind = kind t.0; first = t.2; second = t.3; next = t.1 }))
+abbrev back : List ℕ → Option Node
+back l = pick (eqb (get_or l 0 0) 255) none
+    (some (record { kind = kind (get_or l 0 0); first = get_or l 2 0; second = get_or l 3 0; next = get_or l 1 0 }))
 
 back-of : (f : Option Node) → back (numbers_of f) ≡ f
 back-of (some r) = rw (not_end r.kind) (ap (λ (k : Kind). some (record { kind = k; first = r.first; second = r.second; next = r.next }))

@@ -13,7 +13,7 @@ use Rattle.rules.specs.Machine.{Node}
 use Rattle.rules.specs.Outcome as result
 use Rattle.rules.specs.Record.{Kind, Constant, Flag, And, Or, Xor, Not}
 use Rattle.comparison.specs.Outcome as outcomes
-use Rattle.comparison.specs.Outcome.{Four, same_outcome}
+use Rattle.comparison.specs.Outcome.{same_outcome}
 use Rattle.comparison.specs.declared.outcome.Outcome.{Outcome}
 use Rattle.recorded.specs.Numbers.{pair_at, word_at}
 use Rattle.recorded.specs.Results.{recorded_as}
@@ -26,9 +26,9 @@ code_of Or = 11
 code_of Xor = 12
 code_of Not = 13
 
-abbrev pub numbers_of : Option Node → Four
-numbers_of (some r) = (code_of r.kind, r.next, r.first, r.second)
-numbers_of none = (255, 0, 0, 0)
+abbrev pub numbers_of : Option Node → List ℕ
+numbers_of (some r) = code_of r.kind ∷ r.next ∷ r.first ∷ r.second ∷ []
+numbers_of none = 255 ∷ 0 ∷ 0 ∷ 0 ∷ []
 
 abbrev pub read_of : result.Outcome (Option Node) → Outcome
 read_of = outcomes.numbers_of numbers_of

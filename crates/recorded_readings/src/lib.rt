@@ -16,17 +16,20 @@ use reader::Node;
 use recorded::numbers::{byte_at, pair_at, word_at};
 use recorded::results::recorded_as;
 
-// A flag by the number that the files have for it. They have eight, so that any other takes a number that no file has.
+// What the file has for the end in place of a record's code.
+const END: usize = 255;
+
+// A flag by the code that the files have for it. They have eight, so that any other takes a number past the end's, by which no two records are one.
 fn flag_code(index: u8) -> usize
     ensures { result ≡ code_of (Flag index) }
 {
     if index < 8 {
         return 2 + usize::from(index);
     }
-    256 + usize::from(index)
+    1 + END + usize::from(index)
 }
 
-// A record by the number that the files have for it.
+// A record by the code that the files have for it.
 fn code(kind: Kind) -> usize
     ensures { result ≡ code_of (kind_of kind) }
 {
@@ -40,13 +43,12 @@ fn code(kind: Kind) -> usize
     }
 }
 
-// A record, or the end, which takes a number that no record has.
-fn numbers(found: Option<Node>) -> (usize, usize, usize, usize)
+fn numbers(found: Option<Node>) -> [usize; 4]
     ensures { result ≡ numbers_of (found_of found) }
 {
     match found {
-        Some(node) => (code(node.kind), node.next, node.first, node.second),
-        None => (255, 0, 0, 0),
+        Some(node) => [code(node.kind), node.next, node.first, node.second],
+        None => [END, 0, 0, 0],
     }
 }
 
@@ -62,7 +64,7 @@ fn expected(head: &[u8]) -> Outcome
 {
     let result_at = |at| usize::from(pair_at(head, at));
     recorded_as(
-        byte_at(head, 18),
+        u64::from(byte_at(head, 18)),
         [result_at(19), result_at(21), result_at(23), result_at(25)],
     )
 }

@@ -16,6 +16,7 @@ use Rattle.comparison.specs.Called.{comes_to}
 use Rattle.comparison.specs.Outcome.{results, same_outcome}
 use Rattle.comparison.specs.declared.outcome.Outcome.{Outcome}
 use Rattle.recorded.specs.Numbers.{pair_at}
+use Rattle.recorded.specs.Pattern.{byte}
 use Rattle.recorded.specs.Results.{number_of}
 use Rattle.recorded_rules.specs.Answers.{compiled_of, bytes_after}
 use Rattle.recorded_rules.specs.Rule.{table_raw_costing, agree}
@@ -32,7 +33,7 @@ module _ (n : ℕ) (t a l : List ℕ) (k : ℕ) where
 
   pub agree-said : {cost raw records : ℕ} {e : Outcome} {c d r : Bool} →
       k ≤ length l → cost ≡ pair_at a 0 → raw ≡ pair_at a 2 → records ≡ pair_at a 4 → e ≡ results cost raw records k →
-      c ≡ comes_to compiled_of bytes_after (compile n t byte_limit) (replicate byte_limit 0xA5) e l →
+      c ≡ comes_to compiled_of bytes_after (compile n t byte_limit) (replicate byte_limit byte) e l →
       d ≡ same_outcome (number_of (examine n t (take k l))) (results cost 0 0 0) →
       r ≡ same_outcome (number_of (table_raw_costing n t)) (results raw 0 0 0) → (c && d && r) ≡ agree n t a l k
   unfolding agree

@@ -11,6 +11,7 @@ use Rattle.rules.specs.Outcome.{left}
 use Rattle.comparison.specs.Called.{comes_to}
 use Rattle.comparison.specs.Outcome.{results, same_outcome}
 use Rattle.recorded.specs.Numbers.{pair_at}
+use Rattle.recorded.specs.Pattern.{byte}
 use Rattle.recorded.specs.Results.{number_of}
 use Rattle.recorded_rules.specs.Answers.{compiled_of, bytes_after}
 
@@ -20,6 +21,6 @@ table_raw_costing n t = raw_costing n (left (0 ∷ []) (transform n t 1))
 unfoldable pub agree : ℕ → List ℕ → List ℕ → List ℕ → ℕ → Bool
 agree n t a l k =
     leb k (length l)
-    && (comes_to compiled_of bytes_after (compile n t byte_limit) (replicate byte_limit 0xA5) (results (pair_at a 0) (pair_at a 2) (pair_at a 4) k) l
+    && (comes_to compiled_of bytes_after (compile n t byte_limit) (replicate byte_limit byte) (results (pair_at a 0) (pair_at a 2) (pair_at a 4) k) l
     && same_outcome (number_of (examine n t (take k l))) (results (pair_at a 0) 0 0 0)
     && same_outcome (number_of (table_raw_costing n t)) (results (pair_at a 2) 0 0 0))

@@ -6,20 +6,23 @@ ghost use Rattle.rules.specs.Calls as paper;
 ghost use Rattle.comparison.specs.Called.{comes_to};
 ghost use Rattle.comparison.specs.Outcome.{results, same_outcome};
 ghost use Rattle.recorded.specs.Results.{number_of};
-ghost use Rattle.recorded_rules.specs.Answers.{compiled_of, bytes_after};
+ghost use Rattle.recorded_rules.specs.Answers.{numbers_of, compiled_of, bytes_after};
 ghost use Rattle.recorded_rules.specs.Rule.{table_raw_costing};
 
 use anf_form::raw_anf_cost;
 use anf_transform::compute_anf;
 use comparison::Outcome;
 use comparison::outcome::comes_to;
-use compiler::build_anf_expr;
+use compiler::{Expression, build_anf_expr};
 use examiner::examine;
 
-// Fills a buffer before a call, so that a change past the result, or after a refusal, shows.
-pub const PATTERN: u8 = 0xA5;
-
 // Cost, raw cost, number of records and number of bytes are the results.
+fn numbers(rule: Expression) -> [usize; 4]
+    ensures { result ≡ numbers_of rule }
+{
+    [rule.cost, rule.raw, rule.records, rule.bytes]
+}
+
 pub fn compiles_to(
     flags: usize,
     table: &[u64],
@@ -31,15 +34,14 @@ pub fn compiles_to(
         out.old expected left.now }
 {
     let answer = build_anf_expr(flags, table, out);
-    let told = Outcome::from(answer.map(|rule| (rule.cost, rule.raw, rule.records, rule.bytes)));
+    let told = Outcome::from(answer.map(numbers));
     comes_to(told, out, expected, left)
 }
 
 pub fn is_accepted(flags: usize, table: &[u64], bytes: &[u8], cost: usize) -> bool
     ensures { result ≡ same_outcome (number_of (paper.examine flags table.now bytes.now)) (results cost 0 0 0) }
 {
-    let answer = examine(flags, table, bytes);
-    Outcome::from(answer.map(|cost| (cost, 0, 0, 0))) == Outcome::Results([cost, 0, 0, 0])
+    Outcome::from(examine(flags, table, bytes)) == Outcome::one(cost)
 }
 
 // The coefficients of a rule's table are one word. Where the transform refuses, the word stays 0; the compiler then refuses too, so the rule differs.
@@ -48,6 +50,5 @@ pub fn costs_raw(flags: usize, table: &[u64], raw: usize) -> bool
 {
     let mut words = [0u64; 1];
     let _ = compute_anf(flags, table, &mut words);
-    let answer = raw_anf_cost(flags, &words);
-    Outcome::from(answer.map(|cost| (cost, 0, 0, 0))) == Outcome::Results([raw, 0, 0, 0])
+    Outcome::from(raw_anf_cost(flags, &words)) == Outcome::one(raw)
 }

@@ -1,6 +1,7 @@
 // One evaluation of stars.bin: the flag count, the words of the flags, an expression, and the values for 64 stars that the documents give it, or the
 // refusal. It rests on the call; the promise says that what is compared is the call on paper that the head's bytes ask. `replay_expressions` reads
 // the file; its data folder has the format.
+// Buffers are arrays of the most that a file asks: no crate allocates.
 #![tactic(auto)]
 
 ghost use Rattle.std.specs.Prelude.{◌≡◌};
@@ -10,6 +11,7 @@ ghost use Rattle.recorded.specs.Results.{number_of};
 ghost use Rattle.recorded_stars.specs.Stars.{stars_at, stars_agree};
 
 use comparison::Outcome;
+use comparison::outcome::alone;
 use recorded::numbers::{byte_at, word_at};
 use recorded::results::recorded_as;
 use recorded::slices::set_words;
@@ -26,14 +28,15 @@ fn asked(flags: usize, count: u8, lent: &[u8], bytes: &[u8]) -> Outcome
     let words = &mut words[..usize::from(count)];
     set_words(words, lent);
     let answer = evaluate_stars(flags, words, bytes);
-    Outcome::from(answer.map(|values| (values as usize, 0, 0, 0)))
+    Outcome::from(answer.map(|values| values as usize))
 }
 
 // The values, or the place of a refusal, take eight bytes.
 fn expected(head: &[u8]) -> Outcome
     ensures { result ≡ stars_at head.now }
 {
-    recorded_as(byte_at(head, 11), [word_at(head, 12) as usize, 0, 0, 0])
+    let number = u64::from(byte_at(head, 11));
+    recorded_as(number, alone(word_at(head, 12) as usize))
 }
 
 pub fn agrees(head: &[u8], lent: &[u8], bytes: &[u8]) -> bool

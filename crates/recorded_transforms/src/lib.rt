@@ -1,8 +1,8 @@
 // The transform and the way back as a recorded table asks for them: what each call tells and leaves, compared with what the
 // file says. It rests on the two calls, on `recorded` for what the bytes of a file say and on `comparison`. Reading the
 // files, whose format is in the data folder of `replay_transforms`, and counting is there.
+// Buffers are arrays of the most that a file asks: no crate allocates.
 #![tactic(auto)]
 
 pub mod calls;
 pub mod one_table;
-mod padded;

@@ -4,11 +4,11 @@
 ghost use Rattle.std.specs.Prelude.{◌≡◌};
 ghost use Rattle.recorded_transforms.specs.Table.{transformed, restored};
 
-use crate::calls::{PATTERN, goes_back_to, transforms_to};
-use crate::padded;
+use crate::calls::{goes_back_to, transforms_to};
 use comparison::Outcome;
+use recorded::pattern::WORD;
 use recorded::sizes;
-use recorded::slices::{set_pattern, set_table};
+use recorded::slices::{set_bits, set_pattern, set_table, set_words};
 
 // Room for the largest table, for one table after another: its entries, its words, the entries that come back, and what must be left.
 #[derive(Drop)]
@@ -68,6 +68,7 @@ impl Space {
     }
 }
 
+// These two take the arrays apart because parts of several fields, lent at once, get no proof.
 fn there(
     flags: usize,
     bits: &[u8],
@@ -79,13 +80,14 @@ fn there(
 ) -> bool
     ensures { result ≡ transformed flags bits.now recorded.now expected }
 {
-    let count = sizes::words(flags) + 3;
+    let count = sizes::words(flags);
     let table = &mut table[..sizes::entries(flags)];
-    let out = &mut words[..count];
-    let left = &mut left[..count];
+    let out = &mut words[..count + 3];
+    let left = &mut left[..count + 3];
     set_table(table, bits);
-    set_pattern(out, PATTERN);
-    padded::set_words(left, recorded);
+    set_pattern(out, WORD);
+    set_pattern(left, WORD);
+    set_words(&mut left[..count], recorded);
     transforms_to(flags, table, out, expected, left)
 }
 
@@ -100,12 +102,15 @@ fn back(
 ) -> bool
     ensures { result ≡ restored flags bits.now recorded.now expected }
 {
-    let settings = sizes::entries(flags) + 3;
-    let words = &mut words[..sizes::words(flags) + 3];
-    let out = &mut entries[..settings];
-    let left = &mut left[..settings];
-    padded::set_words(words, recorded);
-    set_pattern(out, PATTERN);
-    padded::set_bits(left, bits);
+    let count = sizes::words(flags);
+    let settings = sizes::entries(flags);
+    let words = &mut words[..count + 3];
+    let out = &mut entries[..settings + 3];
+    let left = &mut left[..settings + 3];
+    set_pattern(words, WORD);
+    set_words(&mut words[..count], recorded);
+    set_pattern(out, WORD);
+    set_pattern(left, WORD);
+    set_bits(&mut left[..settings], bits);
     goes_back_to(flags, words, out, expected, left)
 }

@@ -1,5 +1,5 @@
 // A program run on each file that data/names lists, a line each, in that order, with the file's name written before what the program writes. It
-// rests on std's printing and on the opening of a file.
+// rests on std's printing, of which no contract says what it writes, and on the opening of a file.
 use crate::file;
 use crate::file::Opened;
 use std::io;
@@ -17,14 +17,12 @@ pub fn run_each<R: Files + Print + Eprint, F: FnMut(&mut Opened<R::File>) -> io:
 {
     let mut list = [0; LIST_BYTES];
     let length = fronts::read(&mut file::open(rt, "names"), &mut list)?;
-    let Ok(names) = str::from_utf8(&list[..length]) else {
-        let _ = eprintln!(rt; "the list of files is no text");
-        return Ok(());
-    };
-    for name in names.lines() {
+    for line in list[..length].split_inclusive(|byte| *byte == b'\n') {
+        let name = line.strip_suffix(b"\n").unwrap_or(line);
         let mut opened = file::open(rt, name);
         if opened.is_open() {
-            println!(rt; "{name}")?;
+            rt.write_all(name)?;
+            println!(rt)?;
         }
         run(&mut opened)?;
     }

@@ -1,22 +1,26 @@
-// One case of cases.bin, read: the head, and the two expressions after it, of which either may be empty. It rests on the
-// comparison of a recorded case.
-// `number` and `res` are 0, or 1 to make the outcome's number, or its first result, a wrong one.
-use crate::files::PART_BYTES;
+// One case of cases.bin, read: the head, and the two expressions after it, of which either may be empty. It rests on the parts of a recorded file and
+// on the comparison of a recorded case.
 use recorded::numbers::pair_at;
 use recorded_expressions::cases::agrees;
 use replay::file;
+use replay::file::PART_BYTES;
+use replay::refusals::Wrong;
 use std::io;
 use std::io::Read;
 
-pub fn is_same<R: Read>(file: &mut R, head: &[u8], number: u8, res: usize) -> io::Result<bool> {
-    let one = pair_at(head, 27) as usize;
-    let other = pair_at(head, 29) as usize;
-    if one > PART_BYTES || other > PART_BYTES {
+pub const HEAD: usize = 38;
+
+pub fn is_same<R: Read>(file: &mut R, head: &[u8], wrong: Wrong) -> io::Result<bool> {
+    let one = usize::from(pair_at(head, 27));
+    let other = usize::from(pair_at(head, 29));
+    let Some((first, second)) = file::two_parts::<PART_BYTES, R>(file, one, other)? else {
         return Ok(false);
-    }
-    let mut first = [0u8; PART_BYTES];
-    let mut second = [0u8; PART_BYTES];
-    let first = &mut first[..one];
-    let second = &mut second[..other];
-    Ok(file::fills_both(file, first, second)? && agrees(head, first, second, number, res))
+    };
+    // By what the outcome's number, and its first result, are changed. A refusal's place is its first result.
+    let (number, res) = match wrong {
+        Wrong::Nothing => (0, 0),
+        Wrong::Number => (1, 0),
+        Wrong::Place => (0, 1),
+    };
+    Ok(agrees(head, &first, &second, number, res))
 }

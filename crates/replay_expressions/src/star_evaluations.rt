@@ -1,21 +1,19 @@
-// One evaluation of stars.bin, read: the head, and after it the words of the flags and the expression. It rests on the comparison of a recorded
-// evaluation for 64 stars.
-use crate::files::PART_BYTES;
+// One evaluation of stars.bin, read: the head, and after it the words of the flags and the expression. It rests on the parts of a recorded file and
+// on the comparison of a recorded evaluation for 64 stars.
 use recorded::numbers::{byte_at, pair_at};
 use recorded_stars::agrees;
 use replay::file;
+use replay::file::PART_BYTES;
 use std::io;
 use std::io::Read;
 
+pub const HEAD: usize = 20;
+
 pub fn is_same<R: Read>(file: &mut R, head: &[u8]) -> io::Result<bool> {
-    let size = 8 * (byte_at(head, 8) as usize);
-    let length = pair_at(head, 9) as usize;
-    if length > PART_BYTES {
+    let size = 8 * usize::from(byte_at(head, 8));
+    let length = usize::from(pair_at(head, 9));
+    let Some((words, bytes)) = file::two_parts::<PART_BYTES, R>(file, size, length)? else {
         return Ok(false);
-    }
-    let mut words = [0u8; PART_BYTES];
-    let mut bytes = [0u8; PART_BYTES];
-    let words = &mut words[..size];
-    let bytes = &mut bytes[..length];
-    Ok(file::fills_both(file, words, bytes)? && agrees(head, words, bytes))
+    };
+    Ok(agrees(head, &words, &bytes))
 }

@@ -3,6 +3,7 @@
 --   line-empty, line-last            == no line is empty, and a line ends in a newline
 --   line-digits                      == input that ends in a newline is a line where all before it are digits
 --   printed-other, printed-ragged    == no flag count, or no line: the complaint
+--   printed-no_table                 == input that ends in a newline, with no flag count or no digits: the complaint
 --   printed-rule                     == a line with its flag count: the report
 --   printed-front                    == the first 66 bytes decide
 use mathlib.Core.Bool.{Bool, true, false, and-true, and-false}
@@ -58,6 +59,14 @@ module _ (s : List ℕ) where
       go : (o : Option ℕ) → printed_as s o ≡ ascii "bad line\n"
       go none = refl
       go (some n) = ap (by_line s n) e
+
+  pub printed-no_table : get_or s (length s - 1) 0 ≡ 10
+      → ((n : ℕ) → flags_of (length s - 1) ≡ some n → all is_digit (take (length s - 1) s) ≡ false) → printed s ≡ ascii "bad line\n"
+  printed-no_table e h = go (flags_of (length s - 1)) refl
+    where
+      go : (o : Option ℕ) → flags_of (length s - 1) ≡ o → printed s ≡ ascii "bad line\n"
+      go none q = printed-other q
+      go (some n) q = printed-ragged (line-digits s e ∙ h n q)
 
   pub printed-rule : (n : ℕ) → flags_of (length s - 1) ≡ some n → is_line s ≡ true → printed s ≡ report n (values (take (length s - 1) s))
   unfolding printed printed_as

@@ -1,6 +1,6 @@
 -- The three lines of a rule: they are document 01's report, and they fit a page. It rests on the lengths of numbers (text, Decimal) and of records
 -- (RecordList), and on the limits of what the compiler writes (laws, Fits).
---   digits-few       == the digits of what can be printed
+--   length-lines     == the lines of what can be printed fit a page
 --   report-lines     == the report of a table is the lines of what the compiler writes for it
 --   made-compiled    == what the compiler writes is read back as its tree
 --   printable        == what the compiler writes for a table of up to six flags can be printed
@@ -9,27 +9,33 @@ use mathlib.Core.List.{List, append_assoc}
 use mathlib.Core.Path.{◌≡◌, ap}
 use Prim.Native.Nat.{ℕ, ◌^◌, ◌≤◌}
 use native.Mathlib.Omega.{arith}
-use lib.ListN.{length}
+use lib.ListN.{length, length-append}
 use borrow.Author.Tests.{le-ltb, le-leb}
 use Rattle.rules.specs.Calls.{table_form, compiled, with_table, with_room, compilation, compile}
 use Rattle.rules.specs.Form.{raw_cost}
 use Rattle.rules.specs.Limits.{rule_flags, byte_limit}
 use Rattle.rules.specs.Machine.{made, WellFormed}
 use Rattle.rules.specs.Outcome.{gives}
-use Rattle.rules.specs.Text.{decimal, records, report}
+use Rattle.rules.specs.Text.{records, report}
 use Rattle.rules.specs.Tree.{cost, write}
 use Rattle.laws.proofs.cost.Fits.{cost-compiled, flags-compiled, raw-compiled, records-compiled, length-compiled}
 use Rattle.laws.proofs.reading.ReadBack.{made-write}
+use Rattle.rules.specs.Ascii.{ascii}
+use Rattle.text.specs.Page.{page_bytes}
 use Rattle.text.proofs.Decimal.{length-decimal}
 use Rattle.rule_text.specs.inner.Parts.{shown, lines, Printable}
 use Rattle.rule_text.proofs.RecordList.{length-records}
 
-pub digits-few : {n c r : ℕ} {s : List ℕ} → Printable n s c r → (length (decimal n) ≤ 1) × (length (decimal c) ≤ 3) × (length (decimal r) ≤ 3)
-digits-few {n} {c} {r} p = (
-  length-decimal 1 n (omega arith) (omega arith) (omega arith),
-  length-decimal 3 c (omega arith) (omega arith) (omega arith),
-  length-decimal 3 r (omega arith) (omega arith) (omega arith),
-)
+pub length-lines : {n c r : ℕ} {s : List ℕ} → Printable n s c r → length (lines n (shown (made n s)) c r) ≤ page_bytes
+unfolding lines ascii
+length-lines {n} {c} {r} {s} p =
+    simp length-append (omega (
+      arith,
+      p.records,
+      length-decimal 1 n (omega arith) (omega (arith, p.flags)) (omega (arith, p.flags)),
+      length-decimal 3 c (omega arith) (omega (arith, p.costs)) (omega (arith, p.costs)),
+      length-decimal 3 r (omega arith) (omega (arith, p.costs)) (omega (arith, p.costs)),
+    ))
 
 module _ (n : ℕ) (table : List ℕ) where
   pub report-lines : report n table ≡ lines n (records (compiled n table)) (cost (compiled n table)) (raw_cost (table_form n table))

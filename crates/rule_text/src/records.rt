@@ -1,9 +1,8 @@
-// The records of an expression, written behind what a page has.
-ghost use Rattle.std.specs.Prelude.{◌≡◌, ◌++◌, ◌+◌, ◌≤◌, length};
+// The records of an expression, written behind what a page has. It rests on `expr::record_at` and on what `text` writes.
 ghost use Rattle.rules.specs.Machine.{made, WellFormed};
 ghost use Rattle.rules.specs.Record.{FlagBelow};
 ghost use Rattle.expr.specs.Answers.{kind_of};
-ghost use Rattle.text.specs.Page.{page_bytes};
+ghost use Rattle.text.specs.Page.{page_bytes, Written};
 ghost use Rattle.rule_text.specs.inner.Parts.{gap, kind_text, shown};
 
 use expr::Kind;
@@ -13,43 +12,36 @@ use text::Page;
 // A record's mark, and its payload as a digit.
 #[tactic(auto, unfolding(rules::specs::Ascii::ascii, crate::specs::inner::Parts::kind_text))]
 fn push_kind(page: &mut Page, kind: Kind)
-    requires { FlagBelow 10 (kind_of kind) × (length page.old.bytes + length (kind_text (kind_of kind)) ≤ page_bytes) }
-    ensures { page.new.bytes ≡ page.old.bytes ++ kind_text (kind_of kind) }
+    requires { FlagBelow 10 (kind_of kind) }
+    ensures { Written page_bytes (kind_text (kind_of kind)) page.old page.new }
 {
     match kind {
-        Kind::Constant(b) => {
-            page.push_str("CO");
-            page.push((b'0' + b as u8) as char);
-        }
-        Kind::Variable(i) => {
-            page.push_str("VA");
-            page.push((b'0' + i) as char);
-        }
-        Kind::And => page.push_str("AN"),
-        Kind::Or => page.push_str("OR"),
-        Kind::Xor => page.push_str("XO"),
-        Kind::Not => page.push_str("NO"),
+        Kind::Constant(b) => text::push(page, &[b'C', b'O', b'0' + u8::from(b)]),
+        Kind::Variable(i) => text::push(page, &[b'V', b'A', b'0' + i]),
+        Kind::And => text::push(page, b"AN"),
+        Kind::Or => text::push(page, b"OR"),
+        Kind::Xor => text::push(page, b"XO"),
+        Kind::Not => text::push(page, b"NO"),
     }
 }
 
 // A space before every record but the first.
 #[tactic(auto, unfolding(rules::specs::Ascii::ascii, crate::specs::inner::Parts::gap))]
 fn push_gap(page: &mut Page, place: usize)
-    requires { length page.old.bytes + length (gap place) ≤ page_bytes }
-    ensures { page.new.bytes ≡ page.old.bytes ++ gap place }
+    ensures { Written page_bytes (gap place) page.old page.new }
 {
     if place != 0 {
-        page.push_str(" ");
+        text::push(page, b" ");
     }
 }
 
 // The records, one space between two.
 pub fn push_records(page: &mut Page, flags: RuleFlags, expression: &[u8])
-    requires { WellFormed flags.count expression.now × (length page.old.bytes + length (shown (made flags.count expression.now)) ≤ page_bytes) }
-    ensures { page.new.bytes ≡ page.old.bytes ++ shown (made flags.count expression.now) }
+    requires { WellFormed flags.count expression.now }
+    ensures { Written page_bytes (shown (made flags.count expression.now)) page.old page.new }
 {
     let mut place = 0;
-    // The next place is known once a record is read.
+    // An iterator of the records would have this body as its `next`, and beside it a list of the records that are still to come, for this loop alone.
     while place < expression.len() {
         // No record takes more than two operands, and that each has its own is known already: the expression is well formed.
         let Ok(read) = expr::record_at(flags.count, expression, 2, place) else {

@@ -5,7 +5,7 @@
 --   outcome-told f back        == an answer is told from its outcome, where a result is told by back from what it is on paper
 --   outcome_of-injective       == answers whose outcomes are equal are equal
 use Rattle.std.specs.Prelude.{◌≡◌, ℕ, List, [], ◌∷◌, get_or, Result, Ok, Err, refl}
-use mathlib.Core.Path.{ap, ap₂}
+use mathlib.Core.Path.{ap}
 use Rattle.bits.proofs.Injective.{told-apart}
 use Rattle.rules.specs.Outcome.{Outcome, gives, refuses}
 use Rattle.rules.specs.Refusal.{number, outcome_of}

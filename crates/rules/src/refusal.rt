@@ -3,29 +3,29 @@
 ghost use Rattle.std.specs.Prelude.{◌≡◌};
 ghost use Rattle.rules.specs.Refusal.{number};
 
-// Why a call refuses, in the order of the checks: that of document 01's table, with request 1's 14 before the records, and with the rows of a
-// package last.
+// Why a call refuses, with its number, in the order of the checks: that of document 01's table, with request 1's 14 before the records, and with the
+// rows of a package last.
 #[derive(Clone, Copy, Debug, PartialEq, Eq)]
 pub enum Reason {
-    TooManyFlags,
-    ShortTable,
-    ShortCoefficients,
-    StrayCoefficient,
-    BadSetting,
-    ShortStars,
-    ManyRecords,
-    BadMark,
-    BadPayload,
-    FewOperands,
-    BadEnd,
-    Differs,
-    TooCostly,
-    ShortOutput,
+    TooManyFlags = 1,
+    ShortTable = 2,
+    ShortCoefficients = 3,
+    StrayCoefficient = 4,
+    BadSetting = 11,
+    ShortStars = 14,
+    ManyRecords = 9,
+    BadMark = 6,
+    BadPayload = 7,
+    FewOperands = 8,
+    BadEnd = 10,
+    Differs = 12,
+    TooCostly = 13,
+    ShortOutput = 5,
 
     // Of a package: these two come before `TooManyFlags`, and the last before the records.
-    BadRuleMark,
-    PastEnd,
-    StrayTableBit,
+    BadRuleMark = 15,
+    PastEnd = 16,
+    StrayTableBit = 17,
 }
 
 // The number by which the documents know the condition.
@@ -33,25 +33,7 @@ impl From<Reason> for u64 {
     ghost from_gives = { λ reason n. n ≡ number reason };
 
     fn from(reason: Reason) -> u64 {
-        match reason {
-            Reason::TooManyFlags => 1,
-            Reason::ShortTable => 2,
-            Reason::ShortCoefficients => 3,
-            Reason::StrayCoefficient => 4,
-            Reason::ShortOutput => 5,
-            Reason::BadMark => 6,
-            Reason::BadPayload => 7,
-            Reason::FewOperands => 8,
-            Reason::ManyRecords => 9,
-            Reason::BadEnd => 10,
-            Reason::BadSetting => 11,
-            Reason::Differs => 12,
-            Reason::TooCostly => 13,
-            Reason::ShortStars => 14,
-            Reason::BadRuleMark => 15,
-            Reason::PastEnd => 16,
-            Reason::StrayTableBit => 17,
-        }
+        reason as u64
     }
 }
 

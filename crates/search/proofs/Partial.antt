@@ -5,6 +5,7 @@
 --   partial-few, partial-missing, partial-whole == a mask fails: it has fewer than two flags, a subset is missing, or its subsets are all monomials
 --   partial-true                                == a mask passes
 --   partial-within                              == its flags are single-flag monomials
+--   candidate-some                               == the masks that are tried have a flag
 --   best_family-chosen                           == the best family is chosen from the monomials within the single flags
 use mathlib.Core.Bool.{Bool, true, false, ◌&&◌, and-true, and-false, and_self}
 use mathlib.Core.List.{List, foldl}
@@ -138,6 +139,11 @@ module _ (w : ℕ) where
       ∙ keep-ext (λ m. bit s m && p m) p (monomials l)
       (λ m e. and-implied (bit s m) (p m)
       (λ t. bit-subsets (singles l) m ∙ mem-family m (singles l) ∙ and_intro _ _ (positive m e) (partial-within l m t)))
+
+  pub candidate-some : (s m : ℕ) → mem m (places 64 (bit_and v s)) ≡ true → 0 < m
+  candidate-some s m e =
+      let here = sym (ap (mem m) (places-and 64 v s) ∙ mem-keep (bit s) (places 64 v) m) ∙ e in
+      (monomial-mem l m (ap (mem m) (sym (monomials-word w)) ∙ and-true-l (mem m (places 64 v)) (bit s m) here)).0
 
   worthy : (m : ℕ) → mem m (keep p (monomials l)) ≡ true → (0 < m) × (m < 64) × (2 ≤ ones m)
   worthy m e =

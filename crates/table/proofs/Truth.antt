@@ -1,7 +1,8 @@
--- Tables as truth functions: the table of a function has its values, and its form is the function's. It rests on words read back (bits, Chosen and
--- Word), on the transform inside one word (anf_transform, InWord) and on coefficients (laws, Mobius).
+-- Tables as truth functions: the table of a function has its values, and its form is the function's, for any number of flags. It rests on words read
+-- back (bits, Chosen and Word), on the transform inside one word (anf_transform, InWord) and on coefficients (laws, Mobius).
 --   keep-settings        == tests that agree at the settings keep the same settings
 --   truth-table_of        == the values of a table, of the settings of its flags
+--   truth-tabled         == so of a table of the code
 --   form-ext             == functions with the same values at the settings have the same form
 --   form-table_of         == so has the table of a function
 --   form-entries         == and the table of a list of entries has the form of that list
@@ -11,14 +12,14 @@
 use mathlib.Core.Bool.{Bool}
 use mathlib.Core.List.{List, [], ◌∷◌}
 use Rattle.std.specs.Prelude.{Option, Some, None, MatchOption}
-use mathlib.Core.Path.{◌≡◌, sym, ap, ◌∙◌}
+use mathlib.Core.Path.{◌≡◌, refl, sym, ap, ◌∙◌}
 use Prim.Native.Nat.{ℕ, ◌%◌, ◌^◌, ◌≤◌, ◌<◌}
 use lib.Bits.{bit_xor}
 use lib.Pow.{pow_mono}
 use borrow.Author.Tests.{ltb-true}
 use Rattle.bits.specs.Bit.{◌⊕◌, bit}
 use Rattle.bits.specs.Range.{keep}
-use Rattle.bits.specs.Word.{places}
+use Rattle.bits.specs.Word.{places, word}
 use Rattle.bits.proofs.Bit.{bit-xor}
 use Rattle.bits.proofs.Chosen.{places-chosen, places-mod}
 use Rattle.bits.proofs.Range.{keep-ext, mem-upto}
@@ -45,19 +46,19 @@ module _ (n : ℕ) where
   unfolding form
   form-ext f g h = keep-settings (coefficient n f) (coefficient n g) (λ m l. coefficient-ext n f g m h)
 
-module _ (n : Flags 6) where
-  pub truth-table_of : (f : ℕ → Bool) (s : ℕ) → s < 2 ^ n.count → truth (table_of n f) s ≡ f s
-  truth-table_of f s h = bit-word-keep (2 ^ n.count) f s h
+  -- the bits of the values of f, and of no other settings
+  module _ (f : ℕ → Bool) (t : Table) (e : t.bits ≡ word (keep f (settings n))) where
+    pub truth-table_of : (s : ℕ) → s < 2 ^ n → truth t s ≡ f s
+    truth-table_of s h = ap (λ (w : ℕ). bit w s) e ∙ bit-word-keep (2 ^ n) f s h
 
-  pub form-table_of : (f : ℕ → Bool) → form n.count (coefficient n.count (truth (table_of n f))) ≡ form n.count (coefficient n.count f)
-  form-table_of f = form-ext n.count (truth (table_of n f)) f (truth-table_of f)
+    pub form-table_of : form n (coefficient n (truth t)) ≡ form n (coefficient n f)
+    form-table_of = form-ext (truth t) f truth-table_of
 
-  pub form-entries : (table : List ℕ) (t : Table) → t ≡ table_of n (entry table)
-      → form n.count (coefficient n.count (truth t)) ≡ table_form n.count table
+  pub form-entries : (table : List ℕ) (t : Table) → t.bits ≡ word (keep (entry table) (settings n))
+      → form n (coefficient n (truth t)) ≡ table_form n table
   unfolding table_form
-  form-entries table t e = ap (λ (x : Table). form n.count (coefficient n.count (truth x))) e ∙ form-table_of (entry table)
+  form-entries table t e = form-table_of (entry table) t e
 
-module _ (n : ℕ) where
   -- ---- words
 
   module _ (few : n ≤ rule_flags) where
@@ -67,7 +68,11 @@ module _ (n : ℕ) where
 
     pub apart-word : (v w : ℕ) → places 64 (bit_xor v w % 2 ^ (2 ^ n)) ≡ keep (λ s. bit v s ⊕ bit w s) (settings n)
     unfolding places
-    apart-word v w = places-mod (bit_xor v w) (2 ^ n) 64 (pow_mono few) ∙ keep-settings n _ _ (λ s l. bit-xor v w s)
+    apart-word v w = places-mod (bit_xor v w) (2 ^ n) 64 (pow_mono few) ∙ keep-settings _ _ (λ s l. bit-xor v w s)
+
+-- a table of the code
+pub truth-tabled : (n : Flags 6) (f : ℕ → Bool) (s : ℕ) → s < 2 ^ n.count → truth (table_of n f) s ≡ f s
+truth-tabled n f = truth-table_of n.count f (table_of n f) refl
 
 -- ---- the first difference
 

@@ -2,21 +2,21 @@
 // look at its word. It rests on `form`, `mask_words`, `anf_transform` and `packed_anf`.
 #![tactic(auto)]
 
-ghost use Rattle.std.specs.Prelude.{map, ◌≡◌, ◌*◌, ◌/◌, ◌%◌, ◌≤◌, ◌<◌, ◌^◌, length};
+ghost use Rattle.std.specs.Prelude.{◌≡◌, ◌*◌, ◌/◌, ◌%◌, ◌≤◌, ◌<◌, ◌^◌, length};
 ghost use Rattle.bits.specs.Bit.{◌⊕◌, bit};
-ghost use Rattle.bits.specs.Range.{keep, upto};
+ghost use Rattle.bits.specs.Range.{keep};
 ghost use Rattle.rules.specs.Coefficient.{coefficient};
 ghost use Rattle.rules.specs.Console.{entries};
 ghost use Rattle.rules.specs.Limits.{rule_flags};
 ghost use Rattle.rules.specs.Monomial as monomial;
 ghost use Rattle.rules.specs.Table.{entry, settings};
-ghost use Rattle.mask_words.specs.Lookup.{flag_word};
 ghost use Rattle.form.specs.Masks.{masks};
 ghost use Rattle.table.specs.Truth.{truth, table_of, difference_of, first};
 
 use form::Form;
 use mask_words::Ones;
-use rules::RuleFlags;
+use packed_anf::lent::Entries;
+use rules::{RULE_FLAGS, RuleFlags};
 
 #[derive(Clone, Copy)]
 pub struct Table {
@@ -27,20 +27,15 @@ pub struct Table {
 impl Table {
     // The table of a complete list of entries.
     #[inline]
-    pub fn of_entries(flags: RuleFlags, entries: &[u64]) -> Table
-        requires { 2 ^ flags.count ≤ length entries.now }
-        ensures { result ≡ table_of flags (entry entries.now) }
+    pub fn of_entries(table: Entries<'_, RULE_FLAGS>) -> Table
+        ensures { result ≡ table_of table.entry.flags (entry table.entry.entries.now) }
     {
-        let bits = anf_transform::pack::pack_word(&entries[..packed_anf::setting_count(flags)]);
-        Table { flags, bits }
-    }
-
-    // The table that a word holds, bit s for setting s.
-    #[inline]
-    pub fn of_word(flags: RuleFlags, word: u64) -> Table
-        ensures { result ≡ record { flags = flags; bits = word } }
-    {
-        Table { flags, bits: word }
+        let settings = packed_anf::setting_count(table.flags);
+        let bits = anf_transform::pack::pack_word(&table.entries[..settings]);
+        Table {
+            flags: table.flags,
+            bits,
+        }
     }
 
     // The table of a complete list of entries in bytes, eight an entry, low byte first: bit 0 of an entry is bit 0 of its low byte.
@@ -71,7 +66,7 @@ impl Table {
         ensures { masks result ≡ monomial.form self.flags.count (coefficient self.flags.count (truth self)) }
     {
         let word = low_settings(self.flags, anf_transform::inside::transform_word(self.bits));
-        Form { word }
+        Form::of_coefficients(word)
     }
 
     // The smallest setting at which the table differs from the values that a word has at the settings, if there is one.
@@ -81,14 +76,6 @@ impl Table {
     {
         Ones::of(low_settings(self.flags, values ^ self.bits)).next()
     }
-}
-
-// Each flag's values at all settings: bit s of word i is flag i of setting s.
-#[inline]
-pub fn flag_words() -> [u64; 6]
-    ensures { result ≡ map flag_word (upto rule_flags) }
-{
-    mask_words::flag_words()
 }
 
 // The bits at the settings of that many flags.

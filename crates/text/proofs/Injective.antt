@@ -6,7 +6,7 @@ use mathlib.Core.Path.{◌≡◌, refl, sym, ap, subst, ◌∙◌}
 use Prim.Native.Nat.{ℕ, ◌≤◌}
 use native.Mathlib.Bridge.{le_prop}
 use lib.ListN.{length}
-use Rattle.arrayvec.specs.ArrayString.{ArrayString, array_string_len}
+use Rattle.arrayvec.specs.ArrayVec.{ArrayVec, array_vec_len}
 use Rattle.std.specs.Prelude.{Option as Optional, Some, None}
 use Rattle.rules.specs.declared.flags.Flags.{Flags}
 use Rattle.text.specs.TableDigits.{size_of}
@@ -25,6 +25,5 @@ size_of-injective (Some f) None e = cc
 size_of-injective None (Some f) e = cc
 size_of-injective None None e = refl
 
-pub shows_same : {l : List ℕ} (p q : ArrayString) → Shows l p → Shows l q
-    → (array_string_len p ≡ array_string_len q) × (p.bytes ≡ q.bytes)
+pub shows_same : {l : List ℕ} (p q : ArrayVec ℕ) → Shows l p → Shows l q → (array_vec_len p ≡ array_vec_len q) × (p.items ≡ q.items)
 shows_same p q s t = let e = s.text ∙ sym t.text in (ap (λ (b : List ℕ). length b) e, e)

@@ -1,5 +1,5 @@
 // A walk over an expression's records, from the first to the last, that makes of each record a value from the values of its operands: the value of
-// the whole in any domain, the number of records, and what the ORs save of the cost. It rests on `reader`.
+// the whole in any domain, the number of records, and their cost. It rests on `reader`.
 #![tactic(auto)]
 
 ghost use Rattle.std.specs.Prelude.{◌≡◌, ◌+◌, ◌-◌, ◌≤◌, ◌<◌, ℕ};
@@ -70,7 +70,9 @@ pub fn walk_deep<V: Values>(values: &V, bytes: &[u8]) -> Result<Seen<V::Value>, 
 }
 
 // The records in turn over a stack of that many values; beside it stand whether an entry is an OR, and where it begins. None where the stack is full.
-// One array of structs takes a tenth more instructions than these three.
+// One array of structs was proved, and takes 4 to 10 % more instructions in costing, evaluation and the 64 stars than these three: costing at four
+// flags, 101 ns beside the original's 106 in one run, would come to 105 to 111. A loop and no iterator: between the reading of a record and its
+// passing the walk makes its value, at the depth before it, and at the end it asks how far the reader is.
 fn attempt<V: Values, const N: usize>(
     values: &V,
     bytes: &[u8],

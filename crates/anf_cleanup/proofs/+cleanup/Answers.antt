@@ -13,21 +13,23 @@ use Rattle.std.proofs.Common.{◌<◌, ℕ, arith}
 use borrow.Author.Tests.{eqb-true, eqb-false}
 use Rattle.bits.proofs.Bit.{digit-le}
 use Rattle.bits.specs.Word.{places}
-use Rattle.rules.specs.Form.{raw_form}
+use Rattle.rules.specs.Form.{or_chain, raw_form}
 use Rattle.rules.specs.Monomial.{constant}
-use Rattle.mask_words.specs.declared.Ones.{Ones}
+use Rattle.rules.specs.Tree.{cost}
+use Rattle.mask_words.specs.declared.ones.Ones.{Ones}
 use Rattle.form.specs.Masks.{masks}
-use Rattle.form.proofs.Flags.{singles-below}
+use Rattle.form.proofs.Literals.{constant-digit}
 use Rattle.search.proofs.Positive.{none-positive, some-positive}
 use Rattle.anf_cleanup.specs.Plan.{Planned}
 use Rattle.anf_cleanup.specs.declared.Choice.TheVariants.{Constant, Family, Raw}
-use Rattle.anf_cleanup.proofs.Bounds.{chain-limit, cleanup-limit}
-use Rattle.anf_cleanup.proofs.Candidates.{cube-below, cube-fewer, is_cube-fewer, family-fewer, family-limit}
-use Rattle.anf_cleanup.proofs.Contest.{partial-kept, partial-taken, product-fits, rest-fits, whole-kept, whole-taken, rest-kept, rest-taken}
+use Rattle.anf_cleanup.proofs.Bounds.{cleanup-limit}
+use Rattle.anf_cleanup.proofs.Candidates.{cube-fewer, family-fewer}
+use Rattle.anf_cleanup.proofs.Contest.{partial-planned, product-fits, rest-fits, whole-planned, rest-planned}
 use Rattle.anf_cleanup.proofs.Cubes.{search-start, search-mask, search-kept, search-more, search-done}
-use Rattle.anf_cleanup.proofs.Rules.{cleanup-constant, cleanup-family, family-singles, common_cube-none, partial_or-none}
-use Rattle.anf_cleanup.proofs.Plans.{planned-chosen, planned-contest, planned-single, improved-none, cost-constant, cost-family, cost-raw}
-use Rattle.anf_cleanup.proofs.Saving.{candidate-of, inner-many, inner-bounds, known-cube, tried-passed}
+use Rattle.anf_cleanup.proofs.Rules.{cleanup-constant, cleanup-family, common_cube-built, common_cube-none, partial_or-built, partial_or-none}
+use Rattle.anf_cleanup.proofs.Plans.{planned-chosen, planned-contest, planned-single, improved-none, improved-one}
+use Rattle.anf_cleanup.proofs.Plans.{cost-constant, cost-family, cost-raw}
+use Rattle.anf_cleanup.proofs.Saving.{candidate-of, known-cube, tried-passed}
 use Rattle.anf_cleanup.proofs.+cleanup.Goals as goal
 
 pub best_cube-loop-cube-init : goal.best_cube-loop-cube-init
@@ -35,19 +37,22 @@ best_cube-loop-cube-init t c =
     let left = ap (λ (o : Ones). places 64 o.left) c.into_iter-cube-iterator.ensures.into_iter_gives in
     (tt, tt, search-start c.args.form _ (left ∙ c.masks-cube-items.ensures ∙ c.shared_cubes.ensures))
 
-pub best_cube-try_cube-requires : goal.best_cube-try_cube-requires
-best_cube-try_cube-requires t c =
-    (omega (arith, c.decreases), search-mask _ _ _ _ _ c.in-Some.ensures.steps c.loop-cube.invariant.2)
+pub best_cube-of-requires : goal.best_cube-of-requires
+best_cube-of-requires t c = search-mask _ _ _ _ _ c.in-Some.ensures.steps c.loop-cube.invariant.2
 
 pub best_cube-loop-cube-preserved-in-Some-try_cube : goal.best_cube-loop-cube-preserved-in-Some-try_cube
 best_cube-loop-cube-preserved-in-Some-try_cube t c =
     let (here, more, known) = c.in-Some-try_cube.ensures in
     let gain = subst (λ (n : ℕ). n < c.in-Some-try_cube.better.saving) c.saved.ensures more in
-    (tt, tt, search-more _ _ _ _ _ c.in-Some.ensures.steps c.loop-cube.invariant.2 _ (here, gain, known))
+    (tt, tt, search-more _ _ _ _ _ c.in-Some.ensures.steps c.loop-cube.invariant.2 _ (here ∙ c.of.ensures, gain, known))
 
 pub best_cube-loop-cube-preserved : goal.best_cube-loop-cube-preserved
-best_cube-loop-cube-preserved t c =
-    (tt, tt, search-kept _ _ _ _ _ c.in-Some.ensures.steps c.loop-cube.invariant.2 (λ e. omega (arith, c.in_default.ensures e, c.saved.ensures)))
+best_cube-loop-cube-preserved t c = (
+  tt,
+  tt,
+  search-kept _ _ _ _ _ c.in-Some.ensures.steps c.loop-cube.invariant.2
+      (rw (← c.of.ensures) (λ e. omega (arith, c.in_default.ensures e, c.saved.ensures))),
+)
 
 pub best_cube-returns : goal.best_cube-returns
 best_cube-returns t c = search-done _ _ _ c.in-None.ensures.steps.0 c.loop-cube.invariant.2
@@ -58,31 +63,33 @@ pub cleanup-returns-then-count-eq0 : goal.cleanup-returns-then-count-eq0
 cleanup-returns-then-count-eq0 t c =
     planned-chosen _ Constant _ _ _ _ c.whole.ensures (cost-constant _) tt tt _ (cleanup-constant _ (sym c.count-count.ensures ∙ c.if-count-eq0.true))
 
-pub cleanup-chain_cost-requires : goal.cleanup-chain_cost-requires
-cleanup-chain_cost-requires t c =
-    omega (arith, family-singles (masks c.args.form) (sym c.is_family.ensures ∙ c.if-is_family.true), singles-below c.args.form)
-
 pub cleanup-overflow_add-chain_cost : goal.cleanup-overflow_add-chain_cost
 cleanup-overflow_add-chain_cost t c =
-    omega (arith, digit-le (constant (masks c.args.form)), chain-limit c.singles.result (omega (arith, singles-below c.args.form)))
+    omega (
+      arith,
+      digit-le (constant (masks c.args.form)),
+      constant-digit c.args.form c.constant.ensures c.from-then-is_family.ensures,
+      c.chain_cost.ensures,
+    )
 
 pub cleanup-returns-then-is_family : goal.cleanup-returns-then-is_family
 cleanup-returns-then-is_family t c =
     let whole = sym c.is_family.ensures ∙ c.if-is_family.true in
     planned-chosen _ Family _ _ _ _ c.whole-then-is_family.ensures
-    (cost-family _ _ _ _ c.singles.ensures c.chain_cost.ensures c.constant.ensures)
+    (cost-family _ _ _ _ (c.from.ensures ∙ c.singles.ensures) c.chain_cost.ensures.0
+    (constant-digit c.args.form c.constant.ensures c.from-then-is_family.ensures))
     whole tt _ (cleanup-family _ (λ e. c.if-count-eq0.false (c.count-count.ensures ∙ e)) whole)
 
 pub cleanup-returns-then-count-eq1 : goal.cleanup-returns-then-count-eq1
 cleanup-returns-then-count-eq1 t c =
     let raw : Planned (masks c.args.form) (raw_form (masks c.args.form)) c.whole-first.result =
-    planned-chosen _ Raw _ _ _ _ c.whole-first.ensures (cost-raw _ _ c.requires) tt tt _ refl in
+    planned-chosen _ Raw _ _ _ _ c.whole-first.ensures (cost-raw _ _ c.raw_cost.ensures) tt tt _ refl in
     planned-single _ _ (sym c.count-count.ensures ∙ c.if-count-eq1.true) (sym c.is_family.ensures ∙ c.if-is_family.false) raw
 
 pub cleanup-returns : goal.cleanup-returns
 cleanup-returns t c =
     let raw : Planned (masks c.args.form) (raw_form (masks c.args.form)) c.whole-first.result =
-    planned-chosen _ Raw _ _ _ _ c.whole-first.ensures (cost-raw _ _ c.requires) tt tt _ refl in
+    planned-chosen _ Raw _ _ _ _ c.whole-first.ensures (cost-raw _ _ c.raw_cost.ensures) tt tt _ refl in
     planned-contest _ _ _ _ _ (λ e. c.if-count-eq0.false (c.count-count.ensures ∙ e))
     (sym c.is_family.ensures ∙ c.if-is_family.false)
     raw c.partial_or-second.ensures c.common_cube-third.ensures c.absorption.ensures
@@ -92,36 +99,23 @@ cleanup-returns t c =
 pub common_cube-returns-in_default : goal.common_cube-returns-in_default
 common_cube-returns-in_default t c = improved-none _ _ _ (common_cube-none _ c.in_default.ensures)
 
-pub common_cube-product_cost-requires : goal.common_cube-product_cost-requires
-common_cube-product_cost-requires t c =
-    let w = c.in-Some.ensures in
-    (w.known.nonzero, cube-below c.args.form _ w.best w.known.nonzero)
-
 pub common_cube-overflow_add-product : goal.common_cube-overflow_add-product
 common_cube-overflow_add-product t c = omega (arith, product-fits c.args.form _ c.in-Some.ensures _ c.product_cost.ensures)
 
 pub common_cube-overflow_add-product-2 : goal.common_cube-overflow_add-product-2
 common_cube-overflow_add-product-2 t c = omega (arith, product-fits c.args.form _ c.in-Some.ensures _ c.product_cost.ensures)
 
-pub common_cube-uncovered-rest-requires : goal.common_cube-uncovered-rest-requires
-common_cube-uncovered-rest-requires t c =
-    let w = c.in-Some.ensures in cube-below c.args.form _ w.best w.known.nonzero
-
-pub common_cube-returns-then-best-product : goal.common_cube-returns-then-best-product
-common_cube-returns-then-best-product t c =
-    whole-kept _ _ c.in-Some.ensures _ c.product_cost.ensures _ c.uncovered-rest.ensures _
-    (eqb-true _ 0 (sym c.is_empty.ensures ∙ c.if-is_empty.true)) (omega arith)
-
 pub common_cube-returns-then-is_empty : goal.common_cube-returns-then-is_empty
 common_cube-returns-then-is_empty t c =
-    whole-taken _ _ c.in-Some.ensures _ c.product_cost.ensures _ c.uncovered-rest.ensures _
-    (eqb-true _ 0 (sym c.is_empty.ensures ∙ c.if-is_empty.true)) _ c.factored.ensures (omega arith)
+    improved-one _ _ _ _ _ (common_cube-built _ c.in-Some.found.cube c.in-Some.ensures.best)
+    (c.cheaper.ensures _ _ (whole-planned _ _ c.in-Some.ensures _ c.product_cost.ensures _ c.uncovered-rest.ensures
+    (eqb-true _ 0 (sym c.is_empty.ensures ∙ c.if-is_empty.true)) _ c.factored.ensures))
 
 pub common_cube-cleanup-plan-requires : goal.common_cube-cleanup-plan-requires
 common_cube-cleanup-plan-requires t c =
     let w = c.in-Some.ensures in
-    let fewer = cube-fewer _ _ w.best w.known.nonzero _ c.uncovered-rest.ensures in
-    (omega (arith, c.decreases), c.raw_cost.ensures)
+    let fewer = cube-fewer _ _ w.best c.in-Some.found.cube.some _ c.uncovered-rest.ensures in
+    omega (arith, c.decreases)
 
 pub common_cube-overflow_add-cost : goal.common_cube-overflow_add-cost
 common_cube-overflow_add-cost t c =
@@ -131,60 +125,38 @@ pub common_cube-overflow_add-cost-2 : goal.common_cube-overflow_add-cost-2
 common_cube-overflow_add-cost-2 t c =
     omega (arith, rest-fits c.args.form _ c.in-Some.ensures _ c.product_cost.ensures c.uncovered-rest.result _ c.cleanup-plan.ensures)
 
-pub common_cube-returns-then-best-cost : goal.common_cube-returns-then-best-cost
-common_cube-returns-then-best-cost t c =
-    rest-kept _ _ c.in-Some.ensures _ c.product_cost.ensures _ c.uncovered-rest.ensures _
-    (eqb-false _ 0 (sym c.is_empty.ensures ∙ c.if-is_empty.false)) _ c.cleanup-plan.ensures (omega arith)
-
 pub common_cube-returns : goal.common_cube-returns
 common_cube-returns t c =
-    rest-taken _ _ c.in-Some.ensures _ c.product_cost.ensures _ c.uncovered-rest.ensures _
-    (eqb-false _ 0 (sym c.is_empty.ensures ∙ c.if-is_empty.false)) _ c.cleanup-plan.ensures _ c.factored-2.ensures (omega arith)
+    improved-one _ _ _ _ _ (common_cube-built _ c.in-Some.found.cube c.in-Some.ensures.best)
+    (c.cheaper-2.ensures _ _ (rest-planned _ _ c.in-Some.ensures _ c.product_cost.ensures _ c.uncovered-rest.ensures
+    (eqb-false _ 0 (sym c.is_empty.ensures ∙ c.if-is_empty.false)) _ c.cleanup-plan.ensures _ c.factored-2.ensures))
 
 -- ---- partial_or
 
 pub partial_or-returns-in_default : goal.partial_or-returns-in_default
 partial_or-returns-in_default t c = improved-none _ _ _ (partial_or-none _ (none-positive _ c.in_default.ensures))
 
-pub partial_or-without-rest-requires : goal.partial_or-without-rest-requires
-partial_or-without-rest-requires t c =
-    let family = some-positive _ _ c.in-Some.ensures in (family-limit c.args.form _ family.1 family.0).0
-
 pub partial_or-cleanup-plan-requires : goal.partial_or-cleanup-plan-requires
 partial_or-cleanup-plan-requires t c =
     let family = some-positive _ _ c.in-Some.ensures in
     let fewer = family-fewer _ _ family.1 family.0 _ c.without-rest.ensures in
-    (omega (arith, c.decreases), c.raw_cost.ensures)
-
-pub partial_or-chain_cost-requires : goal.partial_or-chain_cost-requires
-partial_or-chain_cost-requires t c =
-    let family = some-positive _ _ c.in-Some.ensures in
-    (family.0, (family-limit c.args.form _ family.1 family.0).0)
+    omega (arith, c.decreases)
 
 pub partial_or-overflow_add-cost : goal.partial_or-overflow_add-cost
 partial_or-overflow_add-cost t c =
-    let family = some-positive _ _ c.in-Some.ensures in
-    let limit = family-limit c.args.form _ family.1 family.0 in
-    omega (arith, c.chain_cost.ensures, limit.1, c.cleanup-plan.ensures.costs, cleanup-limit c.without-rest.result)
+    omega (arith, c.chain_cost.ensures, c.cleanup-plan.ensures.costs, cleanup-limit c.without-rest.result)
 
 pub partial_or-overflow_add-cost-2 : goal.partial_or-overflow_add-cost-2
 partial_or-overflow_add-cost-2 t c =
-    let family = some-positive _ _ c.in-Some.ensures in
-    let limit = family-limit c.args.form _ family.1 family.0 in
-    omega (arith, c.chain_cost.ensures, limit.1, c.cleanup-plan.ensures.costs, cleanup-limit c.without-rest.result)
-
-pub partial_or-overflow_cast-choices : goal.partial_or-overflow_cast-choices
-partial_or-overflow_cast-choices t c =
-    let family = some-positive _ _ c.in-Some.ensures in
-    omega (arith, family-limit c.args.form _ family.1 family.0)
-
-pub partial_or-returns-then-best-cost : goal.partial_or-returns-then-best-cost
-partial_or-returns-then-best-cost t c =
-    partial-kept _ _ (some-positive _ _ c.in-Some.ensures) _ c.without-rest.ensures _ c.chain_cost.ensures _ c.cleanup-plan.ensures _ (omega arith)
+    omega (arith, c.chain_cost.ensures, c.cleanup-plan.ensures.costs, cleanup-limit c.without-rest.result)
 
 pub partial_or-returns : goal.partial_or-returns
 partial_or-returns t c =
-    partial-taken _ _ (some-positive _ _ c.in-Some.ensures) _ c.without-rest.ensures _ c.chain_cost.ensures _ c.cleanup-plan.ensures _ (omega arith)
+    let chosen = (some-positive _ _ c.in-Some.ensures).1 in
+    improved-one _ _ _ _ _ (partial_or-built _ c.in-Some.family chosen)
+    (c.cheaper.ensures _ _
+    (partial-planned _ c.in-Some.family chosen _ c.without-rest.ensures _
+    (c.chain_cost.ensures.0 ∙ ap (λ (m : ℕ). cost (or_chain m)) c.from.ensures) _ c.cleanup-plan.ensures))
 
 -- ---- try_cube
 
@@ -194,42 +166,31 @@ try_cube-returns-then-not-is_cube t c =
 
 pub try_cube-returns-then-gross-most : goal.try_cube-returns-then-gross-most
 try_cube-returns-then-gross-most t c =
-    let u = candidate-of c.args.form _ _ c.requires.0 c.is_cube.ensures c.if-not-is_cube.false refl in
-    tried-passed _ _ _ u _ (omega (arith, c.if-gross-most.true, c.gross_saving-gross.ensures))
-
-pub try_cube-least_cost-requires : goal.try_cube-least_cost-requires
-try_cube-least_cost-requires t c =
-    inner-many _ _ _ (candidate-of c.args.form _ _ c.requires.0 c.is_cube.ensures c.if-not-is_cube.false c.stripped-inner.ensures)
+    let u = candidate-of c.args.form c.args.cube _ c.is_cube.ensures c.if-not-is_cube.false refl in
+    tried-passed _ c.args.cube _ u _ (omega (arith, c.if-gross-most.true, c.gross_saving-gross.ensures))
 
 pub try_cube-overflow_sub-gross : goal.try_cube-overflow_sub-gross
-try_cube-overflow_sub-gross t c =
-    let u = candidate-of c.args.form _ _ c.requires.0 c.is_cube.ensures c.if-not-is_cube.false c.stripped-inner.ensures in
-    omega (arith, c.least_cost.ensures, c.gross_saving-gross.ensures, inner-bounds _ _ _ u)
+try_cube-overflow_sub-gross t c = omega (arith, c.least_cost.ensures, c.gross_saving-gross.ensures, c.inner_form-inner.ensures.bounds)
 
 pub try_cube-returns-then-gross-least_cost : goal.try_cube-returns-then-gross-least_cost
 try_cube-returns-then-gross-least_cost t c =
-    let u = candidate-of c.args.form _ _ c.requires.0 c.is_cube.ensures c.if-not-is_cube.false c.stripped-inner.ensures in
-    tried-passed _ _ _ u _ (omega (arith, c.if-gross-least_cost.true, c.least_cost.ensures, c.gross_saving-gross.ensures))
+    let u = candidate-of c.args.form c.args.cube _ c.is_cube.ensures c.if-not-is_cube.false c.inner_form-inner.ensures.stripped in
+    tried-passed _ c.args.cube _ u _ (omega (arith, c.if-gross-least_cost.true, c.least_cost.ensures, c.gross_saving-gross.ensures))
 
 pub try_cube-cleanup-plan-requires : goal.try_cube-cleanup-plan-requires
-try_cube-cleanup-plan-requires t c =
-    let u = candidate-of c.args.form _ _ c.requires.0 c.is_cube.ensures c.if-not-is_cube.false c.stripped-inner.ensures in
-    let fewer = is_cube-fewer _ _ u.test u.nonzero _ u.inner in
-    (omega (arith, c.decreases), c.raw_cost.ensures)
+try_cube-cleanup-plan-requires t c = omega (arith, c.decreases, c.inner_form-inner.ensures.fewer)
 
 pub try_cube-overflow_sub-saving : goal.try_cube-overflow_sub-saving
 try_cube-overflow_sub-saving t c =
-    let u = candidate-of c.args.form _ _ c.requires.0 c.is_cube.ensures c.if-not-is_cube.false c.stripped-inner.ensures in
-    omega (arith, c.cleanup-plan.ensures.costs, c.gross_saving-gross.ensures, inner-bounds _ _ _ u)
+    omega (arith, c.cleanup-plan.ensures.costs, c.gross_saving-gross.ensures, c.inner_form-inner.ensures.bounds)
 
 pub try_cube-returns-then-saving-most : goal.try_cube-returns-then-saving-most
 try_cube-returns-then-saving-most t c =
-    let u = candidate-of c.args.form _ _ c.requires.0 c.is_cube.ensures c.if-not-is_cube.false c.stripped-inner.ensures in
-    let known = known-cube _ _ _ u _ _ c.gross_saving-gross.ensures c.cleanup-plan.ensures in
+    let u = candidate-of c.args.form c.args.cube _ c.is_cube.ensures c.if-not-is_cube.false c.inner_form-inner.ensures.stripped in
+    let known = known-cube _ c.args.cube _ u _ _ c.gross_saving-gross.ensures c.cleanup-plan.ensures in
     λ _. omega (arith, known.saving)
 
 pub try_cube-returns : goal.try_cube-returns
 try_cube-returns t c =
-    let u = candidate-of c.args.form _ _ c.requires.0 c.is_cube.ensures c.if-not-is_cube.false c.stripped-inner.ensures in
-    let known = known-cube _ _ _ u _ _ c.gross_saving-gross.ensures c.cleanup-plan.ensures in
-    (refl, omega arith, known)
+    let u = candidate-of c.args.form c.args.cube _ c.is_cube.ensures c.if-not-is_cube.false c.inner_form-inner.ensures.stripped in
+    (refl, omega arith, known-cube _ c.args.cube _ u _ _ c.gross_saving-gross.ensures c.cleanup-plan.ensures)

@@ -5,7 +5,7 @@ use Rattle.laws.proofs.cost.Cost.{cost-or_chain, cost-or_chain-few}
 use Rattle.anf_cleanup.proofs.chain_cost.Goals as goal
 
 pub returns-then-ones-lt2 : goal.returns-then-ones-lt2
-returns-then-ones-lt2 c = sym (cost-or_chain-few c.args.mask (omega arith))
+returns-then-ones-lt2 c = (sym (cost-or_chain-few c.args.mask (omega arith)), omega arith)
 
 pub returns : goal.returns
-returns c = omega (arith, cost-or_chain c.args.mask (omega arith))
+returns c = (omega (arith, cost-or_chain c.args.mask (omega arith)), omega arith)

@@ -27,25 +27,25 @@ mask_count-requires c = let a = c.in_ok-coefficients.coefficients in omega (arit
 pub overflow_sub-count : goal.overflow_sub-count
 overflow_sub-count c =
     let a = c.in_ok-coefficients.coefficients in
-    omega (arith, masks-count _ _ _ _ c.args.out.now c.in_ok-coefficients.ensures a.all a.none_stray)
+    omega (arith, masks-count a _ c.get-constant.ensures)
 
 pub returns-then-out-count : goal.returns-then-out-count
 returns-then-out-count c =
     let a = c.in_ok-coefficients.coefficients in
-    let total = masks-count _ _ _ _ c.args.out.now c.in_ok-coefficients.ensures a.all a.none_stray in
-    let both = told-short _ _ _ _ c.args.out.now c.in_ok-coefficients.ensures a.all a.none_stray _ (omega (arith, total)) c.if-out-count.true in
+    let total = masks-count a _ c.get-constant.ensures in
+    let both = told-short a _ c.get-constant.ensures _ _ c.args.out.now c.in_ok-coefficients.ensures _ (omega (arith, total)) c.if-out-count.true in
     rw c.at.ensures record { answer = both.0; lent = both.1 }
 
 pub list-requires : goal.list-requires
 list-requires c =
     let a = c.in_ok-coefficients.coefficients in
-    let total = masks-count _ _ _ _ c.args.out.now c.in_ok-coefficients.ensures a.all a.none_stray in
+    let total = masks-count a _ c.get-constant.ensures in
     omega (arith, total, length-ordered (monomials (held (length a.words.now) a.words.now)))
 
 pub returns : goal.returns
 returns c =
     let a = c.in_ok-coefficients.coefficients in
-    let total = masks-count _ _ _ _ c.args.out.now c.in_ok-coefficients.ensures a.all a.none_stray in
-    let both = told-listing _ _ _ _ c.args.out.now c.in_ok-coefficients.ensures a.all a.none_stray _ (omega (arith, total)) _ _ c.get-constant.ensures
-    (omega arith) c.list.ensures in
+    let total = masks-count a _ c.get-constant.ensures in
+    let both = told-listing a _ c.get-constant.ensures _ _ c.args.out.now c.in_ok-coefficients.ensures _ (omega (arith, total)) _ (omega arith)
+    c.list.ensures in
     record { answer = both.0; lent = both.1 }

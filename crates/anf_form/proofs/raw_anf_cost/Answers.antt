@@ -23,5 +23,5 @@ unfolding raw_costing
 returns c =
     let a = c.in_ok-coefficients.coefficients in
     ap {B = Outcome ℕ} gives
-    (c.raw_cost.ensures ∙ ap raw_cost (sym (held-lent rule_flags _ _ _ _ c.in_ok-coefficients.ensures a.all a.none_stray)))
+    (c.raw_cost.ensures ∙ ap raw_cost (sym (held-lent _ _ a c.in_ok-coefficients.ensures)))
     ∙ past_coefficients rule_flags _ _ _ _ _ c.in_ok-coefficients.ensures

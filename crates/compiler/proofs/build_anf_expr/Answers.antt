@@ -7,7 +7,7 @@ use Rattle.rules.specs.Outcome.{Outcome, left}
 use Rattle.rules.specs.Table.{entry}
 use Rattle.table.specs.Truth.{truth}
 use Rattle.table.specs.declared.Table.{Table}
-use Rattle.table.proofs.Truth.{truth-table_of}
+use Rattle.table.proofs.Truth.{truth-tabled}
 use Rattle.compiler.specs.Answers.{bytes_of}
 use Rattle.compiler.specs.Truth.{compile_truth}
 use Rattle.compiler.proofs.Instance.{compile-truth, compile_truth-ext}
@@ -31,7 +31,7 @@ returns c =
     let passed = c.in_ok-table.table in
     let same =
     ap (λ (x : Table). compile_truth x.flags.count (truth x) room) c.of_entries.ensures
-    ∙ compile_truth-ext passed.flags.count _ (entry passed.entries.now) room (truth-table_of passed.flags (entry passed.entries.now))
+    ∙ compile_truth-ext passed.flags.count _ (entry passed.entries.now) room (truth-tabled passed.flags (entry passed.entries.now))
     ∙ ap (λ (p : ℕ × List ℕ). compile_truth p.0 (entry p.1) room) (given-table rule_flags n t c.in_ok-table.ensures)
     ∙ past_table rule_flags n t _ _ (compile_truth n (entry t) room) c.in_ok-table.ensures ∙ sym (compile-truth n t room) in
     let told = c.compile_table.ensures in

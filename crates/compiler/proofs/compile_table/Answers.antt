@@ -10,11 +10,17 @@ use Rattle.compiler.specs.Truth.{compile_form, compile_truth}
 use Rattle.compiler.proofs.Written.{form-room, told-room, told-expression}
 use Rattle.compiler.proofs.compile_table.Goals as goal
 
-pub emit-requires-clause-fits : goal.emit-requires-clause-fits
-emit-requires-clause-fits c =
+pub emit-requires : goal.emit-requires
+emit-requires c =
     let t = c.args.table in
     let room = form-room t.flags.count (coefficient t.flags.count (truth t)) t.flags.within in
-    rw (c.new-written.ensures, c.form-form.ensures) (record { room = omega (arith, room) })
+    let planned = c.cleanup-plan.ensures in (
+      omega arith,
+      (
+        rw (c.from-choices.ensures) (record { right = record { makes = planned.makes; allowed = planned.allowed }; parts = planned.parts }),
+        rw (c.new-written.ensures, c.form-form.ensures) (record { room = omega (arith, room) }),
+      ),
+    )
 
 pub returns-then-out-bytes : goal.returns-then-out-bytes
 unfolding compile_truth

@@ -8,10 +8,10 @@ use Rattle.anf_cleanup.specs.Plan.{rank}
 use Rattle.emission.proofs.+emit.Given as goal
 
 abbrev pub decreases-emit : goal.decreases-emit
-decreases-emit l = 3 * literals (masks l.form) + 1 + rank l.choices.form
+decreases-emit g l = 3 * literals (masks l.form) + 1 + rank l.choices.form
 
 abbrev pub decreases-emit_cube : goal.decreases-emit_cube
-decreases-emit_cube l = 3 * literals (masks l.form)
+decreases-emit_cube g l = 3 * literals (masks l.form)
 
 abbrev pub decreases-emit_partial : goal.decreases-emit_partial
-decreases-emit_partial l = 3 * literals (masks l.form)
+decreases-emit_partial g l = 3 * literals (masks l.form)

@@ -2,9 +2,8 @@
 use mathlib.Core.Path.{ap, ◌∙◌}
 use Prim.Native.Nat.{◌^◌, ◌≤◌, ◌<◌}
 use native.Mathlib.Omega.{arith}
-use borrow.Author.Tests.{lt-ltb, le-ltb, le-leb, lt-leb}
+use borrow.Author.Tests.{le-leb, lt-leb}
 use Rattle.bits.proofs.Shift.{one_shl}
-use Rattle.bits.proofs.Bit.{byte-digit}
 use Rattle.rules.specs.Calls.{evaluate}
 use Rattle.rules.specs.Outcome.{gives}
 use Rattle.reader.proofs.Passed.{passed, passed-first, refused-first}
@@ -43,4 +42,4 @@ returns c =
     let flags = c.in_ok-flags.flags in
     let below : a.setting < 2 ^ flags.count = omega (arith, one_shl 64 flags.count (omega (arith, flags.within))) in
     rw (few, ← same, lt-leb _ _ below)
-    (ap gives (byte-digit _) ∙ evaluated-walked flags.count a.setting a.bytes.now c.in_ok-seen.ensures)
+    (ap gives c.from.ensures ∙ evaluated-walked flags.count a.setting a.bytes.now c.in_ok-seen.ensures)

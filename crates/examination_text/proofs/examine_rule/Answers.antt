@@ -16,6 +16,7 @@ unfolding ascii
 returns-then-input-gt-LONGEST c = shows-eq (sym (page-long c.args.input.now c.if-input-gt-LONGEST.true)) c.page_of.ensures
 
 pub returns-in_default : goal.returns-in_default
+unfolding ascii
 returns-in_default c =
     let s = c.args.input.now in
     let start = c.of-lines.ensures in
@@ -29,16 +30,17 @@ returns-in_default c =
           let a = w.in_default in
           lines-four s start a.ensures.steps a.ensures'.steps a.ensures''.steps a.ensures'''.steps
     ] in
-    shows-eq (sym other) c.not_lines.ensures
+    shows-eq (sym other) c.page_of-in_default.ensures
 
 pub returns-then-not-is_empty : goal.returns-then-not-is_empty
+unfolding ascii
 returns-then-not-is_empty c =
     let s = c.args.input.now in
     let a = c.in-Some-Some-Some-None in
     shows-eq
     (sym (page-lines s c.if-input-gt-LONGEST.false
     ∙ lines-more s c.of-lines.ensures a.ensures.steps a.ensures'.steps a.ensures''.steps a.ensures'''.steps.0 (λ e. omega (arith, tests, e))))
-    c.not_lines-then-not-is_empty.ensures
+    c.page_of-then-not-is_empty.ensures
 
 pub lines_page-requires : goal.lines_page-requires
 lines_page-requires c =

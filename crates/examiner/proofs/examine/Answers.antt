@@ -1,30 +1,26 @@
--- `examiner::examine` meets its contract: rows 1 and 2 (laws, Checked), and then the table by value is examined (Examined).
+-- `examiner::examine` meets its contract: rows 1 and 2 (packed_anf, Rows), and past them the examination of the table by value (Examined).
+use mathlib.Core.List.{List}
 use mathlib.Core.Path.{sym, ap, ◌∙◌}
-use native.Mathlib.Omega.{arith}
-use Rattle.rules.specs.Calls.{examine, with_table}
+use Prim.Native.Nat.{ℕ}
+use Rattle.packed_anf.proofs.Rows.{exit, past_table, given-table}
+use Rattle.rules.specs.Calls.{examine}
 use Rattle.rules.specs.Limits.{rule_flags}
-use Rattle.laws.proofs.calls.Checked.{table-short}
-use Rattle.reader.proofs.Passed.{passed, passed-first, refused-first}
-use Rattle.examiner.specs.Answers.{examination_of}
+use Rattle.rules.specs.Outcome.{Outcome}
+use Rattle.rules.specs.Table.{entry}
+use Rattle.examiner.specs.Examined.{examine_truth}
 use Rattle.examiner.proofs.Examined.{examine-truth, examine-table}
 use Rattle.examiner.proofs.examine.Goals as goal
 
-pub returns-in_err-flags : goal.returns-in_err-flags
-unfolding examine with_table
-returns-in_err-flags c = ap examination_of (passed c.from_residual.ensures.1) ∙ refused-first _ _ _ _ _ c.in_err-flags.ensures
-
-pub returns-then-table-setting_count : goal.returns-then-table-setting_count
-returns-then-table-setting_count c =
+pub returns-in_err-table : goal.returns-in_err-table
+returns-in_err-table c =
     let a = c.args in
-    let flags = c.in_ok-flags.flags in
-    let (few, same) = passed-first _ _ _ _ c.in_ok-flags.ensures in
-    rw (c.at.ensures, ← same) (sym (examine-truth flags.count a.table.now a.bytes.now
-    ∙ table-short rule_flags flags.count a.table.now _ flags.within (omega (arith, c.setting_count.ensures, c.if-table-setting_count.true))))
+    let rest : Outcome ℕ = examine_truth a.flags (entry a.table.now) a.bytes.now in
+    exit _ _ _ c.from_residual.ensures.1 ∙ past_table rule_flags a.flags a.table.now _ _ rest c.in_err-table.ensures
+    ∙ sym (examine-truth a.flags a.table.now a.bytes.now)
 
 pub returns : goal.returns
 returns c =
     let a = c.args in
-    let flags = c.in_ok-flags.flags in
-    let (few, same) = passed-first _ _ _ _ c.in_ok-flags.ensures in
-    rw (← same) (c.examine_table.ensures
-    ∙ examine-table flags a.table.now a.bytes.now (omega (arith, c.setting_count.ensures, c.if-table-setting_count.false)) _ c.of_entries.ensures)
+    let passed = c.in_ok-table.table in
+    c.examine_table.ensures ∙ examine-table passed.flags passed.entries.now a.bytes.now passed.complete _ c.of_entries.ensures
+    ∙ ap (λ (p : ℕ × List ℕ). examine p.0 p.1 a.bytes.now) (given-table rule_flags a.flags a.table.now c.in_ok-table.ensures)

@@ -21,4 +21,4 @@ returns c =
     let a = c.args in
     let flags = c.in_ok-flags.flags in
     let (few, same) = passed-first _ _ _ _ c.in_ok-flags.ensures in
-    rw (← same) (costing-walked flags.count a.bytes.now flags.within c.in_ok-seen.ensures)
+    rw (c.from.ensures, ← same) (costing-walked flags.count a.bytes.now flags.within c.in_ok-seen.ensures)

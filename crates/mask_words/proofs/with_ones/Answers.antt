@@ -1,11 +1,6 @@
--- `mask_words::with_ones` meets its contract: its constants are the layers (Layer), and no mask below 64 has more than six ones.
-use mathlib.Core.Path.{sym}
-use native.Mathlib.Omega.{arith}
-use Rattle.mask_words.proofs.Layer.{layer_row, layer-none}
+-- `mask_words::with_ones` meets its contract: its constants are the layers, and no mask below 64 has more than six ones (Layer).
+use Rattle.mask_words.proofs.Layer.{layer-looked}
 use Rattle.mask_words.proofs.with_ones.Goals as goal
 
-pub returns-then-count-lt7 : goal.returns-then-count-lt7
-returns-then-count-lt7 c = layer_row c.args.count c.if-count-lt7.true
-
 pub returns : goal.returns
-returns c = sym (layer-none c.args.count (omega arith))
+returns c = rw (c.unwrap_or.ensures, c.copied.ensures) (layer-looked c.args.count c.get.result c.get.ensures.lookup.0 c.get.ensures.lookup.1)

@@ -6,18 +6,19 @@ use Rattle.recorded_calls.proofs.Chosen.{chosen_none, chosen-first, chosen-secon
 use Rattle.recorded_calls.proofs.choice.Goals as goal
 
 pub returns-then-is_empty : goal.returns-then-is_empty
-returns-then-is_empty c = chosen_none _ _ _ (cheaper-contents _ _ _ _ c.cheaper-chosen.ensures) (search rules)
+returns-then-is_empty c = c.one.ensures ∙ chosen_none _ _ _ (cheaper-contents _ _ _ _ c.cheaper-chosen.ensures) (search rules)
 
 pub returns-then-eq : goal.returns-then-eq
 returns-then-eq c =
-    chosen-first _ _ _ (cheaper-contents _ _ _ _ c.cheaper-chosen.ensures) (search rules) (same_text _ _ (sym c.if-eq.true ∙ c.eq.ensures))
+    c.one-then-eq.ensures
+    ∙ chosen-first _ _ _ (cheaper-contents _ _ _ _ c.cheaper-chosen.ensures) (search rules) (same_text _ _ (sym c.if-eq.true ∙ c.eq.ensures))
 
 pub returns-then-eq-2 : goal.returns-then-eq-2
 returns-then-eq-2 c =
-    chosen-second _ _ _ (cheaper-contents _ _ _ _ c.cheaper-chosen.ensures) (search rules) (other_text _ _ (sym c.if-eq.false ∙ c.eq.ensures))
+    c.one-then-eq-2.ensures
+    ∙ chosen-second _ _ _ (cheaper-contents _ _ _ _ c.cheaper-chosen.ensures) (search rules) (other_text _ _ (sym c.if-eq.false ∙ c.eq.ensures))
 
 pub returns : goal.returns
 returns c =
-    c.damaged.ensures
-    ∙ chosen-other _ _ _ (cheaper-contents _ _ _ _ c.cheaper-chosen.ensures) (search rules)
+    chosen-other _ _ _ (cheaper-contents _ _ _ _ c.cheaper-chosen.ensures) (search rules)
     (other_text _ _ (sym c.if-eq.false ∙ c.eq.ensures)) (other_text _ _ (sym c.if-eq-2.false ∙ c.eq-2.ensures))

@@ -1,17 +1,22 @@
 -- `search::shared_cubes` meets its contract: its turns add the six flags, one after the other (Shared), by the words of the masks that have a
 -- flag (mask_words, Entries).
-use mathlib.Core.Path.{◌≡◌, subst}
+use mathlib.Core.Path.{◌≡◌, sym, ap, ◌∙◌, subst}
 use Prim.Native.Nat.{ℕ}
 use native.Mathlib.Numerals.{add-one}
 use native.Mathlib.Omega.{arith}
 use Rattle.bits.proofs.Sets.{without_zero}
 use Rattle.mask_words.proofs.Entries.{bit-flag}
+use Rattle.form.proofs.WordOperations.{monomials-same, monomials-word}
+use Rattle.rules.specs.Monomial.{monomials}
 use Rattle.search.specs.Inner.{Reached}
 use Rattle.search.proofs.Shared.{reached-start, shared-word}
 use Rattle.search.proofs.shared_cubes.Goals as goal
 
 pub loop-flag-init : goal.loop-flag-init
-loop-flag-init c = reached-start (without_zero 64 c.args.form.word)
+loop-flag-init c =
+    let w = c.args.form.word in
+    let same = monomials-same w _ (omega arith) c.monomials.ensures (omega arith) in
+    subst (λ (v : ℕ). Reached (without_zero 64 w) 0 v 0) (sym same) (reached-start (without_zero 64 w))
 
 pub loop-flag-preserved : goal.loop-flag-preserved
 loop-flag-preserved c =
@@ -23,5 +28,6 @@ returns c =
     let w = c.args.form.word in
     let l = c.loop-flag in
     let all : l.flag ≡ 6 = omega arith in
-    shared-word w l.found.once l.found.twice (omega arith)
+    c.monomials-2.ensures ∙ ap monomials c.of_coefficients.ensures ∙ sym (monomials-word l.found.twice)
+    ∙ shared-word w l.found.once l.found.twice (omega arith)
     (subst (λ (k : ℕ). Reached (without_zero 64 w) k l.found.once l.found.twice) all l.invariant)

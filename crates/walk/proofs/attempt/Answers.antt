@@ -8,11 +8,19 @@ use native.Mathlib.Omega.{arith}
 use Rattle.std.specs.Prelude.{Ok}
 use Rattle.std.proofs.lemmas.List.{length-replicate}
 use Rattle.reader.proofs.Costed.{costed-start, costed-reached, costed-less, costed-fits, costed-step}
-use Rattle.reader.proofs.Turn.{answer-found, answer-end, answer-refused}
+use Rattle.expr.specs.Answers.{kind_of}
+use Rattle.reader.proofs.Turn.{Stepped, answer-found, answer-end, answer-refused}
 use Rattle.reader.proofs.Walk.{walk-fits}
 use Rattle.walk.proofs.Applied.{applied, walked-refused, walked_end}
 use Rattle.walk.proofs.Small.{offset-fits}
 use Rattle.walk.proofs.attempt.Goals as goal
+use Rattle.walk.proofs.attempt.Goals.{In-Ok-Some}
+
+-- the record that the reader answered
+stepped : (g : _) (c : In-Ok-Some g) → (let r = c.loop-node.reader in let node = c.in-Ok-Some.node in
+    Stepped r.flags.count r.bytes.now r.depth r.place r.count (record { kind = kind_of node.kind; next = node.next }))
+stepped g c =
+    answer-found c.loop-node.invariant.2.walk c.loop-node.reader.flags.within (c.in-Ok-Some.is ∙ ap Ok c.in-Ok-Some.field-0-is) c.step.ensures
 
 pub loop-node-init : goal.loop-node-init
 loop-node-init g c =
@@ -46,19 +54,19 @@ returns-in-Err g c =
 pub overflow_sub-base : goal.overflow_sub-base
 overflow_sub-base g c =
     let w = c.loop-node.invariant.2 in
-    let found = answer-found w.walk c.loop-node.reader.flags.within (c.in-Ok-Some.is ∙ ap Ok c.in-Ok-Some.field-0-is) c.step.ensures in
+    let found = stepped g (goal.at.overflow_sub-base g c).In-Ok-Some in
     omega (arith, c.arity.ensures, found.enough)
 
 pub overflow_add-second : goal.overflow_add-second
 overflow_add-second g c =
     let w = c.loop-node.invariant.2 in
-    let found = answer-found w.walk c.loop-node.reader.flags.within (c.in-Ok-Some.is ∙ ap Ok c.in-Ok-Some.field-0-is) c.step.ensures in
+    let found = stepped g (goal.at.overflow_add-second g c).In-Ok-Some in
     omega (arith, w.walk.high, found.more)
 
 pub returns-then-second : goal.returns-then-second
 returns-then-second g c =
     let w = c.loop-node.invariant.2 in
-    let found = answer-found w.walk c.loop-node.reader.flags.within (c.in-Ok-Some.is ∙ ap Ok c.in-Ok-Some.field-0-is) c.step.ensures in
+    let found = stepped g (goal.at.returns-then-second g c).In-Ok-Some in
     omega (arith, w.walk.high, found.more, c.arity.ensures, c.if-second.true)
 
 pub offset_bounds-stack-base : goal.offset_bounds-stack-base
@@ -76,7 +84,7 @@ overflow_add-saved g c = search (costed-fits c.loop-node.invariant.2)
 pub apply-value-requires : goal.apply-value-requires
 apply-value-requires g c =
     let (flags, bytes, w) = c.loop-node.invariant in
-    let found = answer-found w.walk c.loop-node.reader.flags.within (c.in-Ok-Some.is ∙ ap Ok c.in-Ok-Some.field-0-is) c.step.ensures in
+    let found = stepped g (goal.at.apply-value-requires g c).In-Ok-Some in
     (_, _, applied w found _ (omega (arith, c.arity.ensures, found.enough)) _ (le_of_eq flags) _ _)
 
 pub whole_as_slice-pass : goal.whole_as_slice-pass
@@ -85,19 +93,19 @@ whole_as_slice-pass g c = omega (arith, c.requires)
 pub pass-requires : goal.pass-requires
 pass-requires g c =
     let w = c.loop-node.invariant.2 in
-    let found = answer-found w.walk c.loop-node.reader.flags.within (c.in-Ok-Some.is ∙ ap Ok c.in-Ok-Some.field-0-is) c.step.ensures in
+    let found = stepped g (goal.at.pass-requires g c).In-Ok-Some in
     (found.enough, omega (arith, w.lines, c.if-second.false, c.arity.ensures), walk-fits w.walk, omega (arith, found.more))
 
 pub loop-node-smaller : goal.loop-node-smaller
 loop-node-smaller g c =
     let w = c.loop-node.invariant.2 in
-    let found = answer-found w.walk c.loop-node.reader.flags.within (c.in-Ok-Some.is ∙ ap Ok c.in-Ok-Some.field-0-is) c.step.ensures in
+    let found = stepped g (goal.at.loop-node-smaller g c).In-Ok-Some in
     rw c.pass.ensures.reader (omega (arith, found.more))
 
 pub loop-node-preserved : goal.loop-node-preserved
 loop-node-preserved g c =
     let (flags, bytes, w) = c.loop-node.invariant in
-    let found = answer-found w.walk c.loop-node.reader.flags.within (c.in-Ok-Some.is ∙ ap Ok c.in-Ok-Some.field-0-is) c.step.ensures in
+    let found = stepped g (goal.at.loop-node-preserved g c).In-Ok-Some in
     let value = c.apply-value.ensures _ _ (applied w found _ (omega (arith, c.arity.ensures, found.enough)) _ (le_of_eq flags) _ _) in
     let same = ap (λ i. c.loop-node.reader.depth - i) (sym c.arity.ensures) in
     rw (c.pass.ensures.reader, c.pass.ensures.starts, same) (

@@ -5,4 +5,4 @@ use Rattle.anf_form.specs.Inner.{held}
 use Rattle.anf_form.proofs.degree.list_degree.Given as goal
 
 abbrev pub invariant-loop-i : goal.invariant-loop-i
-invariant-loop-i l = Stored (of_degree l.degree (held l.i l.words)) 0 l.count l.initial.out l.out
+invariant-loop-i l = Stored (of_degree l.degree (held l.i l.coefficients.words.now)) 0 l.count l.initial.out l.out

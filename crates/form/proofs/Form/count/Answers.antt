@@ -1,7 +1,7 @@
--- `form::Form::count` meets its contract: without the constant the word has a one for each monomial.
-use native.Mathlib.Omega.{arith}
-use Rattle.form.proofs.WordOperations.{count_word}
+-- `form::Form::count` meets its contract: the size of the monomials.
+use mathlib.Core.Path.{ap, ◌∙◌}
+use lib.ListN.{length}
 use Rattle.form.proofs.Form.count.Goals as goal
 
 pub returns : goal.returns
-returns c = count_word c.args.self.word (omega arith)
+returns c = c.size.ensures.0 ∙ ap length c.monomials.ensures

@@ -10,4 +10,4 @@ use Rattle.form.proofs.Form.covered_literals.Goals as goal
 pub returns : goal.returns
 returns c =
     let w = c.args.self.word in
-    c.literals.ensures ∙ ap (λ (x : ℕ). literals (places 64 (bit_and w x))) c.supersets.ensures ∙ covered-literals w c.args.cube
+    c.literals.ensures ∙ ap (λ (x : ℕ). literals (places 64 (bit_and w x))) c.supersets.ensures ∙ covered-literals w c.args.cube.bits

@@ -9,4 +9,4 @@ use Rattle.form.proofs.Form.has.Goals as goal
 pub returns : goal.returns
 returns c =
     let a = c.args in
-    digit-is (mem a.mask (masks a.self)) _ (coefficient-word a.self.word (omega arith) a.mask)
+    digit-is (mem a.mask.bits (masks a.self)) _ (rw c.from.ensures (coefficient-word a.self.word (omega arith) a.mask.bits))

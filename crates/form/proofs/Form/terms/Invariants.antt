@@ -7,7 +7,7 @@ use Rattle.form.specs.Masks.{masks}
 use Rattle.form.proofs.Form.terms.Given as goal
 
 abbrev pub invariant-loop-degree : goal.invariant-loop-degree
-invariant-loop-degree l = (l.degree ≤ 7) × Stored (degrees (masks l.self) l.degree) 0 l.at l.initial.out l.out
+invariant-loop-degree l = (l.degree ≤ 7) × Stored (degrees (masks l.self) l.degree) 0 l.count l.initial.out l.out
 
 abbrev pub decreases-loop-degree : goal.decreases-loop-degree
 decreases-loop-degree l = 7 - l.degree

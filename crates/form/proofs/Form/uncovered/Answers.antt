@@ -9,4 +9,4 @@ use Rattle.form.proofs.Form.uncovered.Goals as goal
 pub returns : goal.returns
 returns c =
     let w = c.args.self.word in
-    ap (λ (x : ℕ). places 64 (bit_and w ((2 ^ 64 - 1) - x))) c.supersets.ensures ∙ uncovered-word w c.args.cube
+    ap (λ (x : ℕ). places 64 (bit_and w ((2 ^ 64 - 1) - x))) c.supersets.ensures ∙ uncovered-word w c.args.cube.bits

@@ -9,4 +9,4 @@ use Rattle.form.proofs.Form.without.Goals as goal
 pub returns : goal.returns
 returns c =
     let w = c.args.self.word in
-    ap (λ (x : ℕ). places 64 (bit_and w ((2 ^ 64 - 1) - x))) c.subsets.ensures ∙ without-word w c.args.mask c.requires
+    ap (λ (x : ℕ). places 64 (bit_and w ((2 ^ 64 - 1) - x))) c.subsets.ensures ∙ without-word w c.args.mask.bits c.args.mask.within

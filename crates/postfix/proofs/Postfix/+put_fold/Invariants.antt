@@ -3,4 +3,4 @@ use Rattle.std.specs.Prelude.{length}
 use Rattle.postfix.proofs.Postfix.+put_fold.Given as goal
 
 abbrev pub decreases-put_fold : goal.decreases-put_fold
-decreases-put_fold l = length l.terms.now
+decreases-put_fold g l = length l.terms.now

@@ -6,7 +6,7 @@ use Rattle.recorded_expressions.proofs.Asked.{asked-short, asked, asked-other}
 use Rattle.recorded_expressions.proofs.cases.answer.Goals as goal
 
 pub returns-then-head-lt38 : goal.returns-then-head-lt38
-returns-then-head-lt38 c = c.damaged.ensures ∙ asked-short _ _ _ c.if-head-lt38.true
+returns-then-head-lt38 c = asked-short _ _ _ c.if-head-lt38.true
 
 pub returns-in-1 : goal.returns-in-1
 unfolding answers
@@ -39,4 +39,4 @@ returns-in-5 c =
     (c.choice.ensures ∙ rw c.word_at-flags.ensures)
 
 pub returns-in_default : goal.returns-in_default
-returns-in_default c = c.damaged-in_default.ensures ∙ asked-other _ _ _ c.if-head-lt38.false (λ p. omega arith)
+returns-in_default c = asked-other _ _ _ c.if-head-lt38.false (λ p. omega arith)

@@ -1,5 +1,4 @@
 -- `recorded_transforms::calls::goes_back_to` meets its contract: the answer is the call's on paper, and so is the buffer that is left.
-use Rattle.std.proofs.Common.{rules}
 use Rattle.rules.specs.Outcome.{left}
 use Rattle.comparison.proofs.Called.{came}
 use Rattle.recorded_transforms.specs.Answers.{outcome_of}
@@ -8,6 +7,5 @@ use Rattle.recorded_transforms.proofs.calls.goes_back_to.Goals as goal
 
 pub returns : goal.returns
 returns c =
-    let call = c.compute_table-answer in
-    let numbers = numbers-told _ _ _ call.ensures.answer c.from-told.ensures c.map.ensures.cases (λ k t p. search rules) in
-    came outcome_of left _ _ _ _ numbers call.ensures.lent c.comes_to.ensures
+    let call = c.compute_table.ensures in
+    came outcome_of left _ _ _ _ (numbers-told _ _ call.answer c.from-told.ensures) call.lent c.comes_to.ensures

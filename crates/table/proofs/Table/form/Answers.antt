@@ -8,5 +8,6 @@ use Rattle.table.proofs.Table.form.Goals as goal
 pub returns : goal.returns
 returns c =
     let t = c.args.self in
-    ap (places 64) (c.low_settings-word.ensures ∙ ap (λ (w : ℕ). w % 2 ^ (2 ^ t.flags.count)) c.transform_word.ensures)
+    c.of_coefficients.ensures
+    ∙ ap (places 64) (c.low_settings-word.ensures ∙ ap (λ (w : ℕ). w % 2 ^ (2 ^ t.flags.count)) c.transform_word.ensures)
     ∙ form-word t.flags.count t.flags.within t.bits

@@ -12,12 +12,17 @@ use Rattle.table.proofs.Table.of_entries.Goals as goal
 
 pub pack_word-bits-requires : goal.pack_word-bits-requires
 pack_word-bits-requires c =
-    let n = c.args.flags in
-    omega (arith, length-take-le c.setting_count.result c.args.entries.now (omega arith), settings-few n.count n.within)
+    let t = c.args.table in
+    omega (
+      arith,
+      t.complete,
+      length-take-le c.setting_count-settings.result t.entries.now (omega (arith, t.complete)),
+      settings-few t.flags.count t.flags.within,
+    )
 
 pub returns : goal.returns
 returns c =
-    let t = c.args.entries.now in
-    let front = entries-front t c.setting_count.result (omega arith) in
-    ap {B = Table} (λ (b : ℕ). record { flags = c.args.flags; bits = b })
-    (c.pack_word-bits.ensures ∙ front ∙ ap (λ (k : ℕ). word (keep (entry t) (upto k))) c.setting_count.ensures)
+    let t = c.args.table in
+    let front = entries-front t.entries.now c.setting_count-settings.result (omega (arith, t.complete)) in
+    ap {B = Table} (λ (b : ℕ). record { flags = t.flags; bits = b })
+    (c.pack_word-bits.ensures ∙ front ∙ ap (λ (k : ℕ). word (keep (entry t.entries.now) (upto k))) c.setting_count-settings.ensures)

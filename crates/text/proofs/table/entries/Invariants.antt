@@ -4,4 +4,4 @@ use Rattle.text.specs.TableDigits.{values}
 use Rattle.text.proofs.table.entries.Given as goal
 
 abbrev pub invariant-loop-digit : goal.invariant-loop-digit
-invariant-loop-digit l = l.entries.items ≡ values (take l.digit-index l.digits)
+invariant-loop-digit g l = l.entries.items ≡ values (take l.digit-index l.digits)

@@ -1,48 +1,43 @@
--- `examination_text::verdict::Rule::push_reason` meets its contract: each condition's reason is one law of Reasons.
-use mathlib.Core.List.{append_assoc}
+-- `examination_text::verdict::Rule::push_reason` meets its contract: each condition's reason is one law of Reasons, of which the number that was
+-- pushed must be the record's.
+use Rattle.std.proofs.Common.{sym}
 use Rattle.rules.specs.Ascii.{ascii}
-use Rattle.examination_text.specs.Verdict.{beyond_limit, above_raw}
-use Rattle.examination_text.proofs.Reasons.{reason-mark, reason-payload, reason-operands, reason-records, reason-end, reason-differs, reason-costly}
+use Rattle.text.proofs.Shown.{written-eq, written-then}
+use Rattle.examination_text.specs.Verdict.{beyond_limit}
+use Rattle.examination_text.proofs.Reasons.{reason-mark, reason-payload, reason-operands, reason-records}
+use Rattle.examination_text.proofs.Reasons.{reason-end, reason-differs, reason-costly, reason-other}
 use Rattle.examination_text.proofs.verdict.Rule.push_reason.Goals as goal
 
-pub returns-in-BadMark-clause-bytes : goal.returns-in-BadMark-clause-bytes
+pub returns-in-BadMark : goal.returns-in-BadMark
 unfolding ascii
-returns-in-BadMark-clause-bytes c = rw (c.push_number.ensures.bytes, reason-mark _ _ _ _ _ c.in-BadMark.is, c.record_number-record.ensures)
+returns-in-BadMark c = written-eq (sym (reason-mark _ _ _ _ _ c.in-BadMark.is _ cc)) c.push_number.ensures
 
-pub returns-in-BadPayload-clause-bytes : goal.returns-in-BadPayload-clause-bytes
+pub returns-in-BadPayload : goal.returns-in-BadPayload
 unfolding ascii
-returns-in-BadPayload-clause-bytes c =
-    rw (c.push_number-in-BadPayload.ensures.bytes, reason-payload _ _ _ _ _ c.in-BadPayload.is, c.record_number-record.ensures)
+returns-in-BadPayload c = written-eq (sym (reason-payload _ _ _ _ _ c.in-BadPayload.is _ cc)) c.push_number-in-BadPayload.ensures
 
-pub returns-in-FewOperands-clause-bytes : goal.returns-in-FewOperands-clause-bytes
+pub returns-in-FewOperands : goal.returns-in-FewOperands
 unfolding ascii
-returns-in-FewOperands-clause-bytes c =
-    rw (c.push_number-in-FewOperands.ensures.bytes, reason-operands _ _ _ _ _ c.in-FewOperands.is, c.record_number-record.ensures)
+returns-in-FewOperands c = written-eq (sym (reason-operands _ _ _ _ _ c.in-FewOperands.is _ cc)) c.push_number-in-FewOperands.ensures
 
-pub returns-in-ManyRecords-clause-bytes : goal.returns-in-ManyRecords-clause-bytes
+pub returns-in-ManyRecords : goal.returns-in-ManyRecords
 unfolding ascii beyond_limit
-returns-in-ManyRecords-clause-bytes c =
-    rw (
-      c.push_number-in-ManyRecords-2.ensures.bytes,
-      c.push_number-in-ManyRecords.ensures.bytes,
-      reason-records _ _ _ _ _ c.in-ManyRecords.is,
-      c.record_number-record.ensures,
-    ) (simp append_assoc)
+returns-in-ManyRecords c =
+    written-eq (sym (reason-records _ _ _ _ _ c.in-ManyRecords.is _ cc))
+    (written-then c.push_number-in-ManyRecords.ensures c.push_number-in-ManyRecords-2.ensures)
 
-pub returns-in-BadEnd-clause-bytes : goal.returns-in-BadEnd-clause-bytes
+pub returns-in-BadEnd : goal.returns-in-BadEnd
 unfolding ascii
-returns-in-BadEnd-clause-bytes c = rw (c.push_str.ensures.bytes, reason-end _ _ _ _ _ c.in-BadEnd.is)
+returns-in-BadEnd c = written-eq (sym (reason-end _ _ _ _ _ c.in-BadEnd.is)) c.push.ensures
 
-pub returns-in-Differs-clause-bytes : goal.returns-in-Differs-clause-bytes
-returns-in-Differs-clause-bytes c = rw (c.push_difference.ensures.bytes, reason-differs _ _ _ _ _ c.in-Differs.is)
+pub returns-in-Differs : goal.returns-in-Differs
+returns-in-Differs c = written-eq (sym (reason-differs _ _ _ _ _ c.in-Differs.is)) c.push_difference.ensures
 
-pub returns-in_default-clause-bytes : goal.returns-in_default-clause-bytes
-unfolding ascii above_raw
-returns-in_default-clause-bytes c =
+pub returns-in-TooCostly : goal.returns-in-TooCostly
+returns-in-TooCostly c = written-eq (sym (reason-costly _ _ _ _ _ c.in-TooCostly.is)) c.push_costs.ensures
+
+pub returns-in_default : goal.returns-in_default
+returns-in_default c =
     let d = c.in_default in
-    rw (
-      c.push_number-in_default-2.ensures.bytes,
-      c.push_number-in_default.ensures.bytes,
-      reason-costly _ _ _ _ _ d.not-BadMark d.not-BadPayload d.not-FewOperands d.not-ManyRecords d.not-BadEnd d.not-Differs,
-      c.raw_cost.ensures,
-    ) (simp append_assoc)
+    written-eq (sym (reason-other _ _ _ _ _ d.not-BadMark d.not-BadPayload d.not-FewOperands d.not-ManyRecords d.not-BadEnd d.not-Differs))
+    c.push_costs-in_default.ensures

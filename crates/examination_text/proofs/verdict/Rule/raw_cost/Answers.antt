@@ -3,7 +3,8 @@ use mathlib.Core.Path.{refl, ap, ◌∙◌}
 use Rattle.rules.specs.Coefficient.{coefficient}
 use Rattle.rules.specs.Form.{raw_cost}
 use Rattle.rules.specs.Monomial.{form}
-use Rattle.table.specs.Truth.{truth}
+use Rattle.rules.specs.Table.{entry}
+use Rattle.table.specs.Truth.{truth, table_of}
 use Rattle.table.specs.declared.Table.{Table}
 use Rattle.table.proofs.Truth.{form-entries}
 use Rattle.examination_text.proofs.verdict.Rule.raw_cost.Goals as goal
@@ -14,4 +15,4 @@ returns c =
     c.raw_cost.ensures
     ∙ ap raw_cost (c.form.ensures
     ∙ ap (λ (t : Table). form t.flags.count (coefficient t.flags.count (truth t))) c.of_entries.ensures
-    ∙ form-entries a.flags a.table.now _ refl)
+    ∙ form-entries a.table.flags.count a.table.entries.now (table_of a.table.flags (entry a.table.entries.now)) refl)

@@ -1,0 +1,11 @@
+-- `emission::begin_cube`: the form that is left has fewer literals (anf_cleanup, Candidates).
+use Rattle.form.specs.Masks.{masks}
+use Rattle.anf_cleanup.proofs.Candidates.{inner-fewer}
+use Rattle.emission.proofs.Parts.{left-of}
+use Rattle.emission.proofs.begin_cube.Goals as goal
+
+pub returns-clause-after : goal.returns-clause-after
+returns-clause-after g c =
+    let m = c.args.cube in
+    let fewer = inner-fewer (masks c.args.form) m.mask.bits c.requires.allowed m.some _ c.stripped.ensures in
+    left-of _ _ _ _ c.of.ensures c.stripped.ensures c.requires.parts fewer

@@ -1,0 +1,12 @@
+-- `Lookup::subsets` meets its contract: an entry of the first table (Entries).
+use mathlib.Core.List.{List}
+use mathlib.Core.Path.{ap₂, ◌∙◌}
+use Prim.Native.Nat.{ℕ}
+use lib.ListN.{get_or}
+use Rattle.mask_words.proofs.Entries.{get_or-subsets}
+use Rattle.mask_words.proofs.lookup.Lookup.subsets.Goals as goal
+
+pub returns : goal.returns
+returns c =
+    let m = c.args.mask in
+    ap₂ (λ (ws : List ℕ) (k : ℕ). get_or ws k 0) c.args.self.now.subsets_right c.from.ensures ∙ get_or-subsets m.bits m.within
