@@ -68,7 +68,8 @@ impl Space {
     }
 }
 
-// These two take the arrays apart because parts of several fields, lent at once, get no proof.
+// These two take the arrays apart because parts of several fields, lent at once, get no proof. They stay two: a function of both would take every
+// array's length, what fills it, and the call.
 fn there(
     flags: usize,
     bits: &[u8],

@@ -17,7 +17,7 @@ fn tables_of(flags: usize) -> u32
     1 << (1u32 << flags)
 }
 
-// The tables of `flags` flags, of which there are `count`. What the file lacks counts as a difference.
+// The tables of `flags` flags, of which there are `count`. What the file lacks counts as a difference. `HEAD` is bounded for the reason in `items`.
 fn count_tables<
     const HEAD: usize,
     R: Read,

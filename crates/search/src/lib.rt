@@ -61,7 +61,7 @@ fn better_family(
     Some(mask)
 }
 
-// How many flags the best so far has, 0 where there is none.
+// How many flags the best so far has, 0 where there is none: any family has more, as in document 01's search, which begins with the mask 0.
 fn flags_of(best: Option<Monomial>) -> usize
     ensures { result ≡ Count.ones (best_of best) }
 {
