@@ -3,7 +3,7 @@
 --   union-some, flags-below                == of two masks one has a flag; the flags that occur in a form are below the count of masks
 --   raw-limit, cleanup-limit, inner-limit  == raw cost, and the cost of a cleaned form and of a cleaned inner form
 --   covered-limit                          == the literals of the monomials that contain a cube
---   product-limit                          == the cost of a product
+--   product-limit, monomial-limit          == the cost of a product; so of a monomial of the code
 use mathlib.Core.Bool.{Bool, true, false}
 use mathlib.Core.List.{List, [], ◌∷◌, map}
 use mathlib.Core.Path.{◌≡◌, refl}
@@ -80,7 +80,9 @@ module _ (f : Form) where
       go [] h = tt
       go (m ∷ k) h = (omega (arith, h.0), go k h.1)
 
-pub product-limit : (m : Monomial) → cost (cube m.mask.bits) ≤ 11
-product-limit m =
-    let u = m.mask.bits in
-    omega (arith, cost-cube u, term_cost-suc u m.some, ones-le 6 u m.mask.within)
+module _ (m : ℕ) (h : m < mask_count) where
+  pub product-limit : 0 < m → cost (cube m) ≤ 11
+  product-limit p = omega (arith, cost-cube m, term_cost-suc m p, ones-le 6 m h)
+
+pub monomial-limit : (m : Monomial) → cost (cube m.mask.bits) ≤ 11
+monomial-limit m = product-limit m.mask.bits m.mask.within m.some

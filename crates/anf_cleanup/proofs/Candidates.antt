@@ -34,7 +34,7 @@ use Rattle.form.specs.Masks.{masks}
 use Rattle.form.specs.declared.Form.{Form}
 use Rattle.anf_cleanup.specs.Inner.{Winner}
 use Rattle.anf_cleanup.specs.declared.Best.{Best}
-use Rattle.anf_cleanup.proofs.Bounds.{inner-limit, product-limit}
+use Rattle.anf_cleanup.proofs.Bounds.{inner-limit, monomial-limit}
 
 -- ---- rule 2
 
@@ -81,4 +81,4 @@ module _ (l : List ℕ) (c : ℕ) (e : c ≡ best_cube cleanup l) (p : 0 < c) wh
 
 pub cube-limit : (f : Form) (b : Best) → Winner (masks f) b → cost (cube b.cube.mask.bits) + b.inner.cost ≤ 396
 cube-limit f b h =
-    omega (arith, product-limit b.cube, h.known.inner.costs, inner-limit f b.cube.mask.bits)
+    omega (arith, monomial-limit b.cube, h.known.inner.costs, inner-limit f b.cube.mask.bits)

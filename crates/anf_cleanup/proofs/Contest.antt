@@ -34,7 +34,7 @@ module _ (l : List ℕ) (m : Monomial) (f : m.mask.bits ≡ best_family l) (k : 
   pub partial-planned : Planned l (built (Partial m) l)
       (record { choice = Partial m; inner = None; rest = Some r.choice; cost = x + r.cost + 1 })
   partial-planned =
-      planned-chosen l (Partial m) _ None (Some r.choice) _ refl (cost-partial l m x r.cost k e c h.costs) f
+      planned-chosen l (Partial m) _ None (Some r.choice) _ refl (cost-partial l m.mask.bits x r.cost k e c h.costs) f
       (subst (Right (Some r.choice)) e (planned-right k r h)) _ refl
 
 -- ---- rule 3
@@ -58,7 +58,7 @@ module _ (l : List ℕ) (b : Best) (w : Winner l b) (x : ℕ) (c : x ≡ cost (c
   pub whole-planned : length k ≡ 0 → (q : Plan)
       → q ≡ record { choice = Cube b.cube; inner = Some b.inner.choice; rest = None; cost = x + b.inner.cost + 1 }
       → Planned l (built (Cube b.cube) l) q
-  whole-planned z q s = planned _ None q (cost-whole l b.cube x b.inner.cost c w.known.inner.costs k e z) (right-open k) s
+  whole-planned z q s = planned _ None q (cost-whole l b.cube.mask.bits x b.inner.cost c w.known.inner.costs k e z) (right-open k) s
 
   pub rest-planned : (length k ≡ 0 → ⊥) → (r : Plan) → Planned k (cleanup k) r → (q : Plan) → q ≡ record {
     choice = Cube b.cube;
@@ -67,4 +67,4 @@ module _ (l : List ℕ) (b : Best) (w : Winner l b) (x : ℕ) (c : x ≡ cost (c
     cost = x + b.inner.cost + 1 + r.cost + 1;
   } → Planned l (built (Cube b.cube) l) q
   rest-planned z r h q s =
-      planned _ (Some r.choice) q (cost-rest l b.cube x b.inner.cost c w.known.inner.costs k e r.cost z h.costs) (planned-right k r h) s
+      planned _ (Some r.choice) q (cost-rest l b.cube.mask.bits x b.inner.cost c w.known.inner.costs k e r.cost z h.costs) (planned-right k r h) s

@@ -2,8 +2,8 @@
 -- It rests on the definitions of specs/Plan, on the rules' equations (Rules) and on the raw form's cost (laws, Cost).
 --   planned-chosen                                 == the plan of a choice, for the tree that it makes
 --   planned-right, right-open                      == a plan's choice is right, and so is one that is still to be found
---   improved-kept, improved-taken                  == a tree that costs no less than the best, and one that costs less
---   improved-none, improved-one                    == a rule with no candidate, and with one
+--   improved-none, improved-one, improved-kept     == a rule with no candidate; with one that costs less than the best, and with one that does not
+--   improved-taken, improved-only                  == so of a tree with a plan that costs less; a rule with one candidate is that candidate
 --   planned-contest, planned-single                == the raw form, then the candidates of rules 2, 3 and 4; with one monomial there are none
 --   cost-constant, cost-family, cost-raw           == what the trees of the choices cost; a constant 1 in front costs 2
 --   cost-partial, cost-whole, cost-rest            == so of a partial OR, of a cube that covers every mask, and of one that leaves a remainder
@@ -23,13 +23,12 @@ use Rattle.bits.specs.Range.{keep, mem}
 use Rattle.rules.specs.Cleanup.{cleanup, family, atop, singles, is_family, partial_or, stripped, with_rest, common_cube, absorption, cheaper}
 use Rattle.rules.specs.Form.{cube, or_chain, raw_form, raw_cost}
 use Rattle.rules.specs.Monomial.{constant, monomials}
-use Rattle.rules.specs.Tree.{Tree, AN, NO, cost}
+use Rattle.rules.specs.Tree.{Tree, AN, XO, NO, cost}
 use Rattle.laws.proofs.cost.Cost.{cost-raw_form}
-use Rattle.mask_words.specs.declared.mask.Monomial.{Monomial}
 use Rattle.anf_cleanup.specs.Inner.{Improved}
 use Rattle.anf_cleanup.specs.Plan.{built, Allowed, Right, Parts, Planned}
 use Rattle.anf_cleanup.specs.declared.Choice.{Choice}
-use Rattle.anf_cleanup.specs.declared.Choice.TheVariants.{Constant, Family, Raw, Partial, Cube, Absorption}
+use Rattle.anf_cleanup.specs.declared.Choice.TheVariants.{Constant, Family, Raw, Absorption}
 use Rattle.anf_cleanup.specs.declared.Plan.{Plan}
 use Rattle.anf_cleanup.proofs.Rules.{cleanup-contest, partial_or-few, common_cube-few, absorption-none, absorption-tree}
 
@@ -43,12 +42,17 @@ module _ (l : List ℕ) (c : Choice) (n : ℕ) (i r : Option Choice) (w : Plan)
   pub planned-chosen : (t : Tree) → t ≡ built c l → Planned l t w
   planned-chosen t q = rw e (record { makes = sym q; costs = k ∙ ap cost (sym q); allowed = a; parts = s })
 
-module _ (l : List ℕ) (p q : Plan) (u : Tree) (k : Planned l u q) where
-  pub improved-kept : p.cost ≤ q.cost → Improved l (u ∷ []) p p
-  improved-kept g t h = subst (λ (x : Tree). Planned l x p) (sym (decided t u false (le-ltb (cost u) (cost t) (omega (arith, k.costs, h.costs))))) h
+  pub improved-one : (us : List Tree) (p : Plan) → us ≡ built c l ∷ [] → n < p.cost → Improved l us p w
+  improved-one us p f m t h =
+      rw f (planned-chosen (cheaper t (built c l)) (decided t (built c l) true (lt-ltb (cost (built c l)) (cost t) (omega (arith, k, h.costs)))))
 
-  pub improved-taken : q.cost < p.cost → Improved l (u ∷ []) p q
-  improved-taken g t h = subst (λ (x : Tree). Planned l x q) (sym (decided t u true (lt-ltb (cost u) (cost t) (omega (arith, k.costs, h.costs))))) k
+pub improved-kept : (l : List ℕ) (us : List Tree) (p : Plan) (u : Tree) (n : ℕ) → us ≡ u ∷ [] → n ≡ cost u → p.cost ≤ n → Improved l us p p
+improved-kept l us p u n f k m t h =
+    rw f (subst (λ (x : Tree). Planned l x p) (sym (decided t u false (le-ltb (cost u) (cost t) (omega (arith, k, h.costs))))) h)
+
+pub improved-taken : (l : List ℕ) (p q : Plan) (u : Tree) → Planned l u q → q.cost < p.cost → Improved l (u ∷ []) p q
+improved-taken l p q u k g t h =
+    subst (λ (x : Tree). Planned l x q) (sym (decided t u true (lt-ltb (cost u) (cost t) (omega (arith, k.costs, h.costs))))) k
 
 pub planned-right : (l : List ℕ) (p : Plan) → Planned l (cleanup l) p → Right (Some p.choice) l
 planned-right l p h = record { makes = h.makes; allowed = h.allowed }
@@ -56,8 +60,8 @@ planned-right l p h = record { makes = h.makes; allowed = h.allowed }
 pub right-open : (l : List ℕ) → Right None l
 right-open l = record { makes = refl; allowed = tt }
 
-pub improved-one : (l : List ℕ) (us : List Tree) (u : Tree) (p q : Plan) → us ≡ u ∷ [] → Improved l (u ∷ []) p q → Improved l us p q
-improved-one l us u p q e h t k = rw e (h t k)
+pub improved-only : (l : List ℕ) (us : List Tree) (u : Tree) (p q : Plan) → us ≡ u ∷ [] → Improved l (u ∷ []) p q → Improved l us p q
+improved-only l us u p q e h t k = rw e (h t k)
 
 pub improved-none : (l : List ℕ) (us : List Tree) (p : Plan) → us ≡ [] → Improved l us p p
 improved-none l us p e t h = rw e h
@@ -91,21 +95,20 @@ module _ (l : List ℕ) where
   pub cost-family : (u x d : ℕ) → u ≡ singles l → x ≡ cost (or_chain u) → d ≡ digit (constant l) → x + 2 * d ≡ cost (built Family l)
   cost-family u x d e p q = omega (arith, atop-cost (constant l) (or_chain (singles l)), ap (λ (z : ℕ). cost (or_chain z)) e)
 
-  pub cost-partial : (m : Monomial) (x y : ℕ) (k : List ℕ) → k ≡ keep (λ z. not (mem z (family m.mask.bits))) l → x ≡ cost (or_chain m.mask.bits)
-      → y ≡ cost (cleanup k)
-      → x + y + 1 ≡ cost (built (Partial m) l)
+  pub cost-partial : (m x y : ℕ) (k : List ℕ) → k ≡ keep (λ z. not (mem z (family m))) l → x ≡ cost (or_chain m) → y ≡ cost (cleanup k)
+      → x + y + 1 ≡ cost (XO (or_chain m) (cleanup (keep (λ z. not (mem z (family m))) l)))
   unfolding cost
   cost-partial m x y k e p q = omega (arith, ap (λ (z : List ℕ). cost (cleanup z)) e)
 
-  module _ (b : Monomial) (x y : ℕ) (p : x ≡ cost (cube b.mask.bits)) (q : y ≡ cost (cleanup (stripped b.mask.bits l))) (k : List ℕ)
-      (e : k ≡ keep (λ m. not (within b.mask.bits m)) l) where
-    abbrev c : ℕ
-    c = b.mask.bits
+  module _ (c x y : ℕ) (p : x ≡ cost (cube c)) (q : y ≡ cost (cleanup (stripped c l))) (k : List ℕ) (e : k ≡ keep (λ m. not (within c m)) l) where
+    -- the tree that rule 3 makes with the cube c
+    abbrev factored : Tree
+    factored = with_rest cleanup (AN (cube c) (cleanup (stripped c l))) (keep (λ m. not (within c m)) l)
 
-    remaining : (n : ℕ) → n ≡ cost (with_rest cleanup (AN (cube c) (cleanup (stripped c l))) k) → n ≡ cost (built (Cube b) l)
+    remaining : (n : ℕ) → n ≡ cost (with_rest cleanup (AN (cube c) (cleanup (stripped c l))) k) → n ≡ cost factored
     remaining n h = h ∙ ap (λ (z : List ℕ). cost (with_rest cleanup (AN (cube c) (cleanup (stripped c l))) z)) e
 
-    pub cost-whole : length k ≡ 0 → x + y + 1 ≡ cost (built (Cube b) l)
+    pub cost-whole : length k ≡ 0 → x + y + 1 ≡ cost factored
     unfolding cost with_rest
     cost-whole h = remaining (x + y + 1) (go k h)
       where
@@ -113,7 +116,7 @@ module _ (l : List ℕ) where
         go [] z = omega arith
         go (m ∷ r) z = absurd (omega arith)
 
-    pub cost-rest : (z : ℕ) → (length k ≡ 0 → ⊥) → z ≡ cost (cleanup k) → x + y + 1 + z + 1 ≡ cost (built (Cube b) l)
+    pub cost-rest : (z : ℕ) → (length k ≡ 0 → ⊥) → z ≡ cost (cleanup k) → x + y + 1 + z + 1 ≡ cost factored
     unfolding cost with_rest
     cost-rest z h s = remaining (x + y + 1 + z + 1) (go k h s)
       where

@@ -4,13 +4,14 @@
 --   inner-many                     == then k has two masks or more
 --   gross-literals, gross-room     == the gross saving by the covered monomials' literals, which are enough for it
 --   inner-bounds                   == no number of these is above the next: the least that k can cost, its cost cleaned and raw, the gross saving
---   known-cube                     == what is known of a candidate from its gross saving and the plan of its inner form
+--   known-cube                     == what is known of a candidate from its gross saving and its cleaned inner form
+--   known-planned                  == so of the code's, from the plan of its inner form
 --   tried-passed                   == a cube that would not save more even with an inner form of the least cost does not
 use mathlib.Core.Bool.{Bool, true, false}
 use mathlib.Core.List.{List}
 use mathlib.Core.Path.{◌≡◌, refl, sym, ap, ap₂, subst, ◌∙◌}
 use mathlib.Mathlib.Data.Bool.Basic.{eq-false_of_not-eq-true}
-use Rattle.std.specs.Prelude.{None}
+use Rattle.std.specs.Prelude.{Option, None}
 use Prim.Native.Nat.{ℕ, ◌+◌, ◌-◌, ◌*◌, ◌≤◌, ◌<◌}
 use native.Mathlib.Nat.{mul-le-mul_right}
 use native.Mathlib.Omega.{arith}
@@ -35,7 +36,8 @@ use Rattle.form.specs.declared.Form.{Form}
 use Rattle.form.proofs.Masks.{ascending-masks}
 use Rattle.mask_words.specs.declared.mask.Monomial.{Monomial}
 use Rattle.anf_cleanup.specs.Inner.{gross, least, Known, Tried}
-use Rattle.anf_cleanup.specs.Plan.{Planned}
+use Rattle.anf_cleanup.specs.Plan.{Right, Planned}
+use Rattle.anf_cleanup.specs.declared.Choice.{Choice}
 use Rattle.anf_cleanup.specs.declared.Plan.{Plan}
 use Rattle.anf_cleanup.proofs.Bounds.{union-some}
 
@@ -109,17 +111,19 @@ module _ (l : List ℕ) (c : ℕ) (k : List ℕ) (u : Candidate l c k) where
 
 -- ---- a cube that is tried
 
-module _ (l : List ℕ) (b : Monomial) (k : List ℕ) (u : Candidate l b.mask.bits k) where
-  abbrev c : ℕ
-  c = b.mask.bits
-
-  pub known-cube : (g : ℕ) (p : Plan) → g ≡ gross c l → Planned k (cleanup k) p
-      → Known l (record { cube = b; saving = g - p.cost; inner = p })
-  known-cube g p e h = record {
-    test = u.test;
-    saving = saving-cube l c k u g p.cost e h.costs;
-    inner = subst (λ (x : List ℕ). Planned x (cleanup x) p) u.inner h;
-  }
+module _ (l : List ℕ) (c : ℕ) (k : List ℕ) (u : Candidate l c k) where
+  pub known-cube : (g n : ℕ) (o : Option Choice) → g ≡ gross c l → n ≡ cost (cleanup k) → Right o k
+      → (is_cube l c ≡ true) × (g - n ≡ cube_saving cleanup l c) × (n ≡ cost (cleanup (stripped c l))) × Right o (stripped c l)
+  known-cube g n o p q r = (u.test, saving-cube l c k u g n p q, cost-stripped l c k u n q, subst (Right o) u.inner r)
 
   pub tried-passed : (s : ℕ) → gross c l - least k ≤ s → Tried l c s None
   tried-passed s h = λ _. omega (arith, saving-cube l c k u (gross c l) (cost (cleanup k)) refl refl, inner-bounds l c k u)
+
+module _ (l : List ℕ) (b : Monomial) (k : List ℕ) (u : Candidate l b.mask.bits k) where
+  pub known-planned : (g : ℕ) (p : Plan) → g ≡ gross b.mask.bits l → Planned k (cleanup k) p
+      → Known l (record { cube = b; saving = g - p.cost; inner = p })
+  known-planned g p e h = record {
+    test = u.test;
+    saving = saving-cube l b.mask.bits k u g p.cost e h.costs;
+    inner = subst (λ (x : List ℕ). Planned x (cleanup x) p) u.inner h;
+  }

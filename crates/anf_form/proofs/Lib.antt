@@ -2,4 +2,5 @@ pub mod Held
 pub mod Injective
 pub mod Bulk
 pub mod Listed
+pub mod Passed
 pub mod Again

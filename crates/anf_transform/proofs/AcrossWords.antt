@@ -3,7 +3,8 @@
 -- packed coefficients (laws, Packed) and of one flag (Flag).
 --   joined-low, joined-high    == a word whose place lacks bit j, and one whose place has it
 --   pairs-all, pairs-room      == the pairs of halves are all words, and each one ends in the words
---   joined-next                == one pair more is joined
+--   joined-next                == one pair more is joined, in the words
+--   joined-part                == so where the pair is changed as a part of them
 --   holds-joined, holds-next   == words that are all joined at bit j hold one flag more
 use mathlib.Core.Bool.{Bool, true, false, ◌&&◌}
 use mathlib.Core.List.{List}
@@ -56,16 +57,39 @@ module _ (j n : ℕ) (h : j < n) where
       let most : i + 1 ≤ 2 ^ (n - 1 - j) = omega arith in
       omega (arith, pairs-all, mul-le-mul_left (2 * 2 ^ j) most)
 
+-- bit j of a place in the first half of pair i, and in its second
+flag : (j i m r b : ℕ) → m ≡ (i * 2 + b) * 2 ^ j + r → b < 2 → r < 2 ^ j → bit m j ≡ eqb b 1
+flag j i m r b e l h =
+    let d : (i * 2 + b) % 2 ≡ b = omega arith in
+    ap (λ (x : ℕ). bit x j) e ∙ bit-block j (i * 2 + b) r h ∙ ap (λ (x : ℕ). eqb x 1) d
+
+-- one pair more, which begins at place s
+module _ (j i s : ℕ) (ws vs : List ℕ) (t : Joined j ws i vs) (begins : s ≡ 2 * 2 ^ j * i) where
+  pub joined-next : (us : List ℕ) → Changed (s + 2 ^ j) (s + 2 * 2 ^ j) (pair_xor (2 ^ j) vs) vs us → Joined j ws (i + 1) us
+  joined-next us u = record {
+    same = u.same ∙ t.same;
+    before = λ m l. absurd (omega arith);
+    here = λ m z l. go m (omega arith) (ltb m s) refl;
+    after = λ m l. u.after m (omega arith) ∙ t.after m (omega arith);
+  }
+    where
+      later : (m : ℕ) → m < s + 2 * 2 ^ j → s ≤ m → (b : Bool) → ltb m (s + 2 ^ j) ≡ b → get_or us m 0 ≡ joined j ws m
+      later m l k true e =
+          let h = ltb-true m (s + 2 ^ j) e in
+          u.before m h ∙ t.after m (omega arith) ∙ sym (joined-low j ws m (flag j i m (m - s) 0 (omega arith) (omega arith) (omega arith)))
+      later m l k false e =
+          let h = ltb-false m (s + 2 ^ j) e in
+          u.here m h l ∙ ap₂ bit_xor (t.after m (omega arith)) (t.after (m - 2 ^ j) (omega arith))
+          ∙ sym (joined-high j ws m (flag j i m (m - s - 2 ^ j) 1 (omega arith) (omega arith) (omega arith)))
+
+      go : (m : ℕ) → m < s + 2 * 2 ^ j → (b : Bool) → ltb m s ≡ b → get_or us m 0 ≡ joined j ws m
+      go m l true e = let h = ltb-true m s e in u.before m (omega arith) ∙ t.here m (omega arith) (omega arith)
+      go m l false e = later m l (ltb-false m s e) (ltb m (s + 2 ^ j)) refl
+
 -- one pair more: its words, from place s on, are k, and each half has d
 module _ (j i s k d : ℕ) (ws vs us : List ℕ) (t : Joined j ws i vs) (begins : s ≡ 2 * 2 ^ j * i) (half : d ≡ 2 ^ j)
     (size : k ≡ 2 * d) (within : s + k ≤ length ws)
     (u : Changed d (2 * d) (pair_xor d (take k (drop s vs))) (take k (drop s vs)) us) where
-  -- bit j of a place in the pair's first half, and in its second
-  flag : (m r b : ℕ) → m ≡ (i * 2 + b) * 2 ^ j + r → b < 2 → r < 2 ^ j → bit m j ≡ eqb b 1
-  flag m r b e l h =
-      let d : (i * 2 + b) % 2 ≡ b = omega arith in
-      ap (λ (x : ℕ). bit x j) e ∙ bit-block j (i * 2 + b) r h ∙ ap (λ (x : ℕ). eqb x 1) d
-
   room : s + k ≤ length vs
   room = omega (arith, t.same)
 
@@ -86,17 +110,17 @@ module _ (j i s k d : ℕ) (ws vs us : List ℕ) (t : Joined j ws i vs) (begins 
       go true e =
           let l = ltb-true r (2 ^ j) e in
           written-inside s k vs us room part r h ∙ u.before r (omega arith) ∙ word r h
-          ∙ sym (joined-low j ws (s + r) (flag (s + r) r 0 (omega arith) (omega arith) l))
+          ∙ sym (joined-low j ws (s + r) (flag j i (s + r) r 0 (omega arith) (omega arith) l))
       go false e =
           let l = ltb-false r (2 ^ j) e in
           let back : s + r - 2 ^ j ≡ s + (r - d) = omega arith in
           written-inside s k vs us room part r h ∙ u.here r (omega arith) (omega arith)
           ∙ ap₂ bit_xor (word r h) (word (r - d) (omega arith) ∙ ap (λ (x : ℕ). get_or ws x 0) (sym back))
-          ∙ sym (joined-high j ws (s + r) (flag (s + r) (r - 2 ^ j) 1 (omega arith) (omega arith) (omega arith)))
+          ∙ sym (joined-high j ws (s + r) (flag j i (s + r) (r - 2 ^ j) 1 (omega arith) (omega arith) (omega arith)))
 
-  pub joined-next : Joined j ws (i + 1) (put_mid s k vs us)
+  pub joined-part : Joined j ws (i + 1) (put_mid s k vs us)
   unfolding after
-  joined-next = record {
+  joined-part = record {
     same = written-same s k vs us room part ∙ t.same;
     before = λ m l. absurd (omega arith);
     here = λ m z l. go m l (ltb m s) refl;

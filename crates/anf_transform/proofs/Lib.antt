@@ -1,5 +1,6 @@
 pub mod Flag
 pub mod InWord
+pub mod Change
 pub mod Written
 pub mod AcrossWords
 pub mod WordByWord

@@ -18,6 +18,7 @@ use packed_anf::lent::{Coefficients, Entries};
 use rules::{FORM_FLAGS, FormFlags, Reason, Refusal};
 
 // The coefficient words of the table's algebraic normal form, at the front of `out`; the answer is how many entries they are.
+#[tactic(auto, unfolding(rules::specs::Calls::transform, rules::specs::Calls::with_table, rules::specs::Table::complete))]
 pub fn compute_anf(flags: usize, table: &[u64], out: &mut [u64]) -> Result<usize, Refusal>
     ensures answer { filled_of out.new result ≡ transform flags table.now (length out.old) }
     ensures lent { out.new ≡ left out.old (transform flags table.now (length out.old)) }
@@ -76,7 +77,7 @@ fn transform_back(coefficients: Coefficients<'_, FORM_FLAGS>, out: &mut [u64])
     ensures { out.new ≡ written out.old (values coefficients.entry.flags.count coefficients.entry.words.now) }
 {
     let words = &mut out[..coefficients.words.len()];
-    words.copy_from_slice(coefficients.words);
+    pack::copy(coefficients.words, words);
     transform_words(coefficients.flags, words);
     pack::unpack(coefficients.flags, out);
 }

@@ -1,5 +1,5 @@
 // Between table entries and bits: entries are packed into words, and words are unpacked into entries 0 and 1. It rests on `packed_anf`.
-ghost use Rattle.std.specs.Prelude.{map, ◌≡◌, ◌^◌, ◌≤◌, length};
+ghost use Rattle.std.specs.Prelude.{map, ◌≡◌, ◌^◌, ◌≤◌, length, take};
 ghost use Rattle.std.proofs.lemmas.List.Edits.{sets};
 ghost use Rattle.bits.specs.Bit.{bit, digit};
 ghost use Rattle.bits.specs.Range.{keep, upto};
@@ -54,5 +54,15 @@ pub fn unpack(flags: FormFlags, out: &mut [u64])
         let word = out[i];
         let first = 64 * i;
         unpack_word(word, &mut out[first..first + count]);
+    }
+}
+
+// The front of `from`, as long as `words`. Word by word, because with `copy_from_slice` the library for C needs `memmove` from outside.
+pub fn copy(from: &[u64], words: &mut [u64])
+    requires { length words.old ≤ length from.now }
+    ensures { words.new ≡ take (length words.old) from.now }
+{
+    for i in 0..words.len() {
+        words[i] = from[i];
     }
 }

@@ -5,13 +5,14 @@ use mathlib.Core.Bool.{true, ◌&&◌}
 use mathlib.Core.List.{[], ◌∷◌}
 use mathlib.Core.Option.{none, some}
 use lib.Dec.{T, eqb}
+use Rattle.std.specs.Prelude.{None, Some}
 use Rattle.bits.specs.Range.{same}
 use Rattle.rules.specs.Calls.{compile, costing, read}
 use Rattle.rules.specs.Limits.{byte_limit}
 use Rattle.rules.specs.Outcome.{gives, refuses}
 use Rattle.rules.proofs.Answers.{entries_of, bytes_of}
 use Rattle.rules.proofs.Computing.{computing}
-use Rattle.answer_block.specs.Block.{stored, numbers}
+use Rattle.answer_block.specs.Block.{stored, numbers, or_end}
 use Rattle.answer_block.specs.Numbers.{alone, entries, listing, compilation, reading, package_reading, costs, cheaper}
 
 -- "As many of them are stored as there is room for, and nothing else of the block changes"
@@ -70,6 +71,11 @@ pub package-rows :
     )
 unfolding same
 package-rows = tt
+
+-- the numbers of what was read, "and nothing more at the end" than the kind, 0
+pub end-rows : T (same (or_end (Some (1 ∷ 1 ∷ 3 ∷ 0 ∷ 0 ∷ []))) (1 ∷ 1 ∷ 3 ∷ 0 ∷ 0 ∷ []) && same (or_end None) (0 ∷ []))
+unfolding same
+end-rows = tt
 
 -- "Returns 0 where rule_cost refuses n or either expression; else 2 where the second has the smaller size, or the same size and the smaller depth;
 -- else 1"

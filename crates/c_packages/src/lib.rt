@@ -13,6 +13,7 @@ use answer_block::count;
 use package_reader::RuleAt;
 
 // A rule, at the front of `out`.
+#[tactic(auto, using(laws::proofs::calls::Outcome::length_front))]
 pub fn write(flags: usize, table: u64, bytes: &[u8], out: &mut [u8], answer: &mut [u64]) -> u64
     ensures lent { out.new ≡ left out.old
         (write_rule (record { flags = flags; table = table; expression = bytes.now }) (length out.old)) }

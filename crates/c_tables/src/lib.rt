@@ -15,6 +15,7 @@ use answer_block::count;
 use compiler::Expression;
 
 // The coefficient words of a table, at the front of `out`.
+#[tactic(auto, using(laws::proofs::calls::Outcome::length_front))]
 pub fn transform(flags: usize, table: &[u64], out: &mut [u64], answer: &mut [u64]) -> u64
     ensures lent { out.new ≡ left out.old (Calls.transform flags table.now (length out.old)) }
     ensures answer { Answers c.entries (Calls.transform flags table.now (length out.old))
@@ -27,6 +28,7 @@ pub fn transform(flags: usize, table: &[u64], out: &mut [u64], answer: &mut [u64
 }
 
 // The table of coefficients, one entry for each setting, at the front of `out`.
+#[tactic(auto, using(laws::proofs::calls::Outcome::length_front))]
 pub fn way_back(flags: usize, coefficients: &[u64], out: &mut [u64], answer: &mut [u64]) -> u64
     ensures lent { out.new ≡ left out.old (Calls.way_back flags coefficients.now (length out.old)) }
     ensures answer { Answers c.entries (Calls.way_back flags coefficients.now (length out.old))

@@ -4,6 +4,7 @@
 --   better-trees                   == of two trees' costs it is rules' `smaller`
 --   cheaper-first, cheaper-second  == the choice where the first is refused, and where the second is
 --   cheaper-better, cheaper-else   == where neither is: the second is better, and else
+--   told-first, -second, -better, -else == so of what the code's costing answered
 --   cheaper-map                    == the choice is made alike of whatever stands for the two
 --   part, cheaper-part             == the part of two slices that the choice stands for is `cheaper_part`
 --   cheaper-contents               == what `cheaper` promises implies that the result holds the bytes of rules' `cheaper_of_two`
@@ -51,45 +52,61 @@ pub better-trees : (t u : Tree) → better (costs t) (costs u) ≡ smaller t u
 unfolding better smaller
 better-trees t u = refl
 
--- ---- what an answer of costing tells
+-- ---- what costing tells
+
+module _ {A : Type 0} (e a b : A) (n : ℕ) (s t : List ℕ) where
+  pub cheaper-first : (k p : ℕ) → costing n s ≡ refuses k p → cheaper_of e a b (parse n s) (parse n t) ≡ e
+  unfolding cheaper_of
+  cheaper-first k p h = rw (costing-refuses n s k p h)
+
+  pub cheaper-second : (c : Costs) (k p : ℕ) → costing n s ≡ gives c → costing n t ≡ refuses k p → cheaper_of e a b (parse n s) (parse n t) ≡ e
+  unfolding cheaper_of
+  cheaper-second c k p h f =
+      let (u, is, same) = costing-gives n s c h in
+      rw (is, costing-refuses n t k p f)
+
+  module _ (c d : Costs) (h : costing n s ≡ gives c) (f : costing n t ≡ gives d) where
+    both : cheaper_of e a b (parse n s) (parse n t) ≡ elim (better d c) [ true ↦ b | false ↦ a ]
+    unfolding cheaper_of
+    both =
+        let (u, is, same) = costing-gives n s c h in
+        let (v, is', same') = costing-gives n t d f in
+        rw (is, is') (ap (λ (x : Bool). elim x [ true ↦ b | false ↦ a ]) (sym (better-trees v u) ∙ ap₂ better same' same))
+
+    pub cheaper-better : better d c ≡ true → cheaper_of e a b (parse n s) (parse n t) ≡ b
+    cheaper-better k = both ∙ rw k
+
+    pub cheaper-else : better d c ≡ false → cheaper_of e a b (parse n s) (parse n t) ≡ a
+    cheaper-else k = both ∙ rw k
+
+-- ---- what an answer of the code's costing tells
 
 known : (r : Result expr_cost.Costs Refusal) {c : expr_cost.Costs} → Some c ≡ result_ok r → costing_of r ≡ gives (costs_of c)
 known (Ok d) e = ap (λ x. gives (costs_of (unwrap_or x d))) (sym e)
 known (Err x) e = absurd (cc)
 
 module _ {A : Type 0} (e a b : A) (n : ℕ) (s t : List ℕ) (q r : Result expr_cost.Costs Refusal) where
-  pub cheaper-first : costing_of q ≡ costing n s → None ≡ result_ok q → e ≡ cheaper_of e a b (parse n s) (parse n t)
-  unfolding cheaper_of
-  cheaper-first = go q
+  pub told-first : costing_of q ≡ costing n s → None ≡ result_ok q → e ≡ cheaper_of e a b (parse n s) (parse n t)
+  told-first = go q
     where
       go : (q : Result expr_cost.Costs Refusal) → costing_of q ≡ costing n s → None ≡ result_ok q → e ≡ cheaper_of e a b (parse n s) (parse n t)
       go (Ok d) h f = absurd (cc)
-      go (Err x) h f = rw (costing-refuses n s _ _ (sym h))
+      go (Err x) h f = sym (cheaper-first e a b n s t _ _ (sym h))
 
   module _ {x : expr_cost.Costs} (first : costing_of q ≡ costing n s) (p : Some x ≡ result_ok q) (second : costing_of r ≡ costing n t) where
-    pub cheaper-second : None ≡ result_ok r → e ≡ cheaper_of e a b (parse n s) (parse n t)
-    unfolding cheaper_of
-    cheaper-second = go r second
+    pub told-second : None ≡ result_ok r → e ≡ cheaper_of e a b (parse n s) (parse n t)
+    told-second = go r second
       where
         go : (r : Result expr_cost.Costs Refusal) → costing_of r ≡ costing n t → None ≡ result_ok r → e ≡ cheaper_of e a b (parse n s) (parse n t)
         go (Ok d) h f = absurd (cc)
-        go (Err x) h f =
-            let (u, is, same) = costing-gives n s _ (sym first ∙ known q p) in
-            rw (is, costing-refuses n t _ _ (sym h))
+        go (Err x) h f = sym (cheaper-second e a b n s t _ _ _ (sym first ∙ known q p) (sym h))
 
     module _ {y : expr_cost.Costs} (o : Some y ≡ result_ok r) where
-      both : cheaper_of e a b (parse n s) (parse n t) ≡ elim (better (costs_of y) (costs_of x)) [ true ↦ b | false ↦ a ]
-      unfolding cheaper_of
-      both =
-          let (u, is, same) = costing-gives n s _ (sym first ∙ known q p) in
-          let (v, is', same') = costing-gives n t _ (sym second ∙ known r o) in
-          rw (is, is') (ap (λ (x : Bool). elim x [ true ↦ b | false ↦ a ]) (sym (better-trees v u) ∙ ap₂ better same' same))
+      pub told-better : {w : Bool} → w ≡ better (costs_of y) (costs_of x) → w ≡ true → b ≡ cheaper_of e a b (parse n s) (parse n t)
+      told-better k z = sym (cheaper-better e a b n s t _ _ (sym first ∙ known q p) (sym second ∙ known r o) (sym k ∙ z))
 
-      pub cheaper-better : {w : Bool} → w ≡ better (costs_of y) (costs_of x) → w ≡ true → b ≡ cheaper_of e a b (parse n s) (parse n t)
-      cheaper-better k z = sym (both ∙ rw (sym k ∙ z))
-
-      pub cheaper-else : {w : Bool} → w ≡ better (costs_of y) (costs_of x) → w ≡ false → a ≡ cheaper_of e a b (parse n s) (parse n t)
-      cheaper-else k z = sym (both ∙ rw (sym k ∙ z))
+      pub told-else : {w : Bool} → w ≡ better (costs_of y) (costs_of x) → w ≡ false → a ≡ cheaper_of e a b (parse n s) (parse n t)
+      told-else k z = sym (cheaper-else e a b n s t _ _ (sym first ∙ known q p) (sym second ∙ known r o) (sym k ∙ z))
 
 pub cheaper-map : {A B : Type 0} (f : A → B) (e a b : A) (o q : Outcome Tree) → f (cheaper_of e a b o q) ≡ cheaper_of (f e) (f a) (f b) o q
 unfolding cheaper_of

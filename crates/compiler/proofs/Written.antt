@@ -53,16 +53,16 @@ module _ (l out : List ℕ) (o : Outcome paper.Compilation) (told : o ≡ compil
       told-refusal o out short_output (length w.bytes)
       (told ∙ room-short (length out) (write (cleanup l)) _ (rw (← bytes) h) ∙ ap (λ s. refuses short_output (length s)) (sym bytes))
 
-  pub told-expression : (c r : ℕ) → length w.bytes ≤ length out → c ≡ cost (cleanup l) → r ≡ raw_cost l
+  pub told-expression : (k c r : ℕ) → length w.bytes ≤ length out → k ≡ w.records → c ≡ cost (cleanup l) → r ≡ raw_cost l
       → Told o out (w.bytes ++ drop (length w.bytes) out)
-      (gives (expression_of (w.bytes ++ drop (length w.bytes) out) (record { bytes = length w.bytes; records = w.records; cost = c; raw = r })))
+      (gives (expression_of (w.bytes ++ drop (length w.bytes) out) (record { bytes = length w.bytes; records = k; cost = c; raw = r })))
   unfolding compile_form paper.compilation
-  told-expression c r h e q =
+  told-expression k c r h m e q =
       let given : o ≡ gives (paper.compilation (cleanup l) l) =
       told ∙ room-enough (length out) (write (cleanup l)) (gives (paper.compilation (cleanup l) l)) (rw (← bytes) h) in
       let put = sym (sets-front w.bytes out h) in
       let front_is = ap (front (length w.bytes)) put ∙ front-written w.bytes out h ∙ bytes in
       record {
-        answer = (λ i. gives (record { bytes = front_is i; records = records i; cost = e i; raw = q i })) ∙ sym given;
+        answer = (λ i. gives (record { bytes = front_is i; records = (m ∙ records) i; cost = e i; raw = q i })) ∙ sym given;
         lent = put ∙ ap (written out) bytes ∙ ap (λ (x : Outcome paper.Compilation). left out (bytes_of x)) (sym given);
       }

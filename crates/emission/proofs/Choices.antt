@@ -16,7 +16,8 @@ use Rattle.rules.specs.Tree.{size, write}
 use Rattle.anf_cleanup.specs.Plan.{made, Allowed, Parts}
 use Rattle.anf_cleanup.specs.declared.Choice.{Choice}
 use Rattle.anf_cleanup.specs.declared.Choices.{Choices}
-use Rattle.postfix.specs.Put.{Cursor, Room, Writes}
+use Rattle.postfix.specs.Put.{Room, Writes}
+use Rattle.postfix.specs.declared.cursor.Cursor.{Cursor}
 use Rattle.postfix.proofs.Put.{put-eq, room-eq}
 use Rattle.emission.specs.inner.Emitted.{Meant}
 use Rattle.emission.specs.inner.Due.{Due}

@@ -4,7 +4,7 @@
 --   named_more               == one flag more
 --   length-named             == two bytes a flag at most
 --   named-first              == the first flag and the others
---   names-some               == the flags of a word of ones are named
+--   names-some, names-word   == where some flag is set the flags are named; so of the flags of a word
 use mathlib.Core.Bool.{Bool, true, false}
 use mathlib.Core.List.{List, [], ◌∷◌, ◌++◌, append_assoc, append-nil}
 use mathlib.Core.Path.{◌≡◌, refl, sym, ap, ◌∙◌}
@@ -34,7 +34,7 @@ module _ (w i : ℕ) where
   flag-short h = go (bit w i)
     where
       go : (b : Bool) → length (turn i b) ≤ 2
-      go true = omega (arith, length-decimal 1 i (omega arith) (omega arith) (omega arith))
+      go true = omega (arith, length-decimal 0 i h)
       go false = omega arith
 
 named-append : (a b : List ℕ) → named (a ++ b) ≡ named a ++ named b
@@ -77,6 +77,11 @@ pub named-first : {ls l : List ℕ} {i : ℕ} → ls ≡ i ∷ l → ascii " " +
 unfolding sum
 named-first e = sym (ap named e)
 
-pub names-some : (w : ℕ) → w < 2 ^ 64 → (w ≡ 0 → ⊥) → named (places 64 w) ≡ flag_names (places 64 w)
+pub names-some : (l : List ℕ) → (length (named l) ≡ 0 → ⊥) → named l ≡ flag_names l
+unfolding flag_names sum
+names-some [] n = absurd (n refl)
+names-some (i ∷ l) n = refl
+
+pub names-word : (w : ℕ) → w < 2 ^ 64 → (w ≡ 0 → ⊥) → named (places 64 w) ≡ flag_names (places 64 w)
 unfolding flag_names
-names-some w h n = ap named (places-lowest 64 w (omega (arith, n)) h) ∙ sym (ap flag_names (places-lowest 64 w (omega (arith, n)) h))
+names-word w h n = ap named (places-lowest 64 w (omega (arith, n)) h) ∙ sym (ap flag_names (places-lowest 64 w (omega (arith, n)) h))

@@ -22,7 +22,7 @@ use Rattle.examination_text.proofs.Flags.{length-named}
 
 -- a number of 64 bits has at most twenty digits
 digits : (k : ℕ) → k < 2 ^ 64 → length (decimal k) ≤ 20
-digits k h = length-decimal 20 k (omega arith) (omega arith) h
+digits k h = length-decimal 19 k (omega arith)
 
 record-of-le : (ts : List (List ℕ)) (p : ℕ) → record_of ts p ≤ length ts
 unfolding record_of

@@ -17,8 +17,8 @@ ghost use Rattle.examination_text.specs.Input.{longest, of_rule, of_table, verdi
 use crate::parts::Parts;
 use crate::verdict::Rule;
 use packed_anf::lent::Entries;
-use text::Page;
 use text::table::{Digits, TABLE_DIGITS};
+use text::{Page, Text};
 
 // What the input has at most, in bytes.
 const LONGEST: usize = 4095;
@@ -48,10 +48,10 @@ fn rule_page(digits: Digits<'_>, line: &[u8]) -> Page
         entries: &entries,
     };
     let rule = Rule { table, line };
-    let mut page = Page::new();
-    rule.push_verdict(&mut page, answer);
-    text::push(&mut page, b"\n");
-    page
+    let mut verdict = Text::new();
+    rule.push_verdict(&mut verdict, answer);
+    text::push(&mut verdict, b"\n");
+    text::page_of(&verdict)
 }
 
 // The page for the two lines.

@@ -15,7 +15,7 @@ use mask_words::Ones;
 use packed_anf::lent::Entries;
 use rules::{RECORD_LIMIT, RULE_FLAGS, Reason, Refusal, RuleFlags};
 use table::Table;
-use text::{Page, push, push_number};
+use text::{Text, push, push_number};
 
 // What is examined: a complete table, and the line of an expression's records.
 #[derive(Clone, Copy)]
@@ -33,7 +33,7 @@ fn set_flags(flags: RuleFlags, setting: usize) -> Ones
 
 // The flags, each after a space, or that there is none.
 #[tactic(auto, unfolding(rules::specs::Ascii::ascii))]
-fn push_flag_names(page: &mut Page, flags: Ones)
+fn push_flag_names(page: &mut Text, flags: Ones)
     ensures { Written page_bytes (flag_names (places 64 flags.left)) page.old page.new }
 {
     if flags.word() == 0 {
@@ -45,7 +45,7 @@ fn push_flag_names(page: &mut Page, flags: Ones)
 }
 
 // A difference from the table at a setting.
-fn push_difference(page: &mut Page, flags: RuleFlags, setting: usize)
+fn push_difference(page: &mut Text, flags: RuleFlags, setting: usize)
     ensures { Written page_bytes (difference flags.count setting) page.old page.new }
 {
     push_number(page, b"differs from the table at setting ", setting);
@@ -62,7 +62,7 @@ impl Rule<'_, '_> {
     }
 
     // A cost above the raw cost.
-    fn push_costs(&self, page: &mut Page, cost: usize)
+    fn push_costs(&self, page: &mut Text, cost: usize)
         ensures { Written page_bytes (above_raw (raw_cost (table_form self.now.table.flags.count self.now.table.entries.now)) cost)
             page.old page.new }
     {
@@ -71,7 +71,7 @@ impl Rule<'_, '_> {
     }
 
     // The reason of a refusal.
-    fn push_reason(&self, page: &mut Page, refusal: Refusal)
+    fn push_reason(&self, page: &mut Text, refusal: Refusal)
         ensures { Written page_bytes (reason self.now.table.flags.count self.now.table.entries.now (record_texts self.now.line.now)
             (number refusal.reason) refusal.place) page.old page.new }
     {
@@ -97,7 +97,7 @@ impl Rule<'_, '_> {
 
     // The verdict: the cost, or the row that refused the rule and the reason.
     #[tactic(auto, unfolding(rules::specs::Ascii::ascii, crate::specs::Verdict::verdict_text))]
-    pub fn push_verdict(&self, page: &mut Page, answer: Result<usize, Refusal>)
+    pub fn push_verdict(&self, page: &mut Text, answer: Result<usize, Refusal>)
         ensures text { Written page_bytes (verdict_text self.now.table.flags.count self.now.table.entries.now (record_texts self.now.line.now)
             (examination_of answer)) page.old page.new }
         ensures short { length (verdict_text self.now.table.flags.count self.now.table.entries.now (record_texts self.now.line.now)

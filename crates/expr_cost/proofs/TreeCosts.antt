@@ -2,14 +2,15 @@
 -- `costing` and `parse` of rules' Calls and on the laws of laws' Outcome and reader's Costed.
 --   costs t                            == a tree's cost, size and depth
 --   costing-over, costing-within       == with too many flags; else by the machine
+--   costing-many                       == so of a refusal that is row 1's
 --   costing-refused                    == a refusal of the machine is costing's
 --   costing-gives, costing-refuses     == what costing's two answers say of the tree
 --   costing-walked                     == costing is made of what the walk answers
 use mathlib.Core.List.{List}
 use mathlib.Core.Path.{◌≡◌, sym, ap, ◌∙◌}
-use Prim.Native.Nat.{ℕ, ◌≤◌}
+use Prim.Native.Nat.{ℕ, ◌≤◌, ◌<◌}
 use lib.Dec.{ltb}
-use borrow.Author.Tests.{le-ltb}
+use borrow.Author.Tests.{lt-ltb, le-ltb}
 use Rattle.rules.specs.Calls.{Costs, parse, costing}
 use Rattle.rules.specs.Limits.{rule_flags, too_many_flags}
 use Rattle.rules.specs.Machine.{made}
@@ -24,9 +25,13 @@ abbrev pub costs : Tree → Costs
 costs t = record { cost = cost t; size = size t; depth = depth t }
 
 module _ (n : ℕ) (s : List ℕ) where
-  pub costing-over : {k p : ℕ} → refuses k p ≡ refuse (ltb rule_flags n) too_many_flags 0 (gives n) → refuses k p ≡ costing n s
+  pub costing-over : rule_flags < n → costing n s ≡ refuses too_many_flags 0
   unfolding costing parse
-  costing-over e = refused-first _ _ _ _ _ e ∙ sym (refuse-then (ltb rule_flags n) too_many_flags 0 (made n s) (λ t. gives (costs t)))
+  costing-over h = rw (lt-ltb rule_flags n h)
+
+  pub costing-many : {k p : ℕ} → refuses k p ≡ refuse (ltb rule_flags n) too_many_flags 0 (gives n) → refuses k p ≡ costing n s
+  unfolding costing parse
+  costing-many e = refused-first _ _ _ _ _ e ∙ sym (refuse-then (ltb rule_flags n) too_many_flags 0 (made n s) (λ t. gives (costs t)))
 
   pub costing-within : n ≤ rule_flags → costing n s ≡ made n s then (λ t. gives (costs t))
   unfolding costing parse

@@ -3,7 +3,8 @@
 --   rule p n w k      == the rule at p of n flags, the table word w and k bytes of expression
 --   rows size p r     == what a whole header at p comes to that tells the rule r, in so many bytes
 --   beyond, within    == row 16 of its expression; past it the rows 1 and 17
---   unmarked, short   == row 15, and row 16 of a header that is cut
+--   cut               == row 16 where the mark stands and the bytes are too few for a header
+--   unmarked, short   == row 15, and row 16 of a header that is cut, by what the code read
 --   told              == a whole header, by what its bytes tell
 use Rattle.std.specs.Prelude.{Bool, true, false, ◌&&◌, Option, MatchOption, Ok, Err, List, [], ◌∷◌, length, get_or, take, drop, map}
 use Rattle.std.specs.Prelude.{◌≡◌, refl, ◌⊎◌, ℕ, zero, suc, ◌+◌, ◌-◌, ◌≤◌, ◌<◌, ltb, eqb}
@@ -114,6 +115,11 @@ marked s p h b e =
     sym (e ∙ ap (λ (l : List ℕ). starts_with eqb l (ascii "RU")) (take_all (length s - p) (drop p s) (omega (arith, length-drop p s)))
     ∙ pointwise-same (ascii "RU") (part s p 2))
 
+pub cut : (s : List ℕ) (p : ℕ) → p < length s → starts_with eqb (take (length s - p) (drop p s)) (82 ∷ 85 ∷ []) ≡ true
+    → length s < p + header_length → headed s p ≡ refuses past_end p
+unfolding headed ascii
+cut s p past mark less = rw (marked s p past true (sym mark), lt-ltb _ _ less) refl
+
 -- what the code read: whether the mark stands at p, and if it does the bytes of the header
 module _ (s : List ℕ) (p : ℕ) (past : p < length s) {b : Bool} (mark : b ≡ starts_with eqb (take (length s - p) (drop p s)) (82 ∷ 85 ∷ [])) where
   pub unmarked : b ≡ false → headed s p ≡ refuses bad_rule_mark p
@@ -127,11 +133,9 @@ module _ (s : List ℕ) (p : ℕ) (past : p < length s) {b : Bool} (mark : b ≡
 
   module _ (is : b ≡ true) (o : Option (Bor (List ℕ))) (e : Refusal) (cases : Read o) where
     pub short : {d : Refusal} → Err d ≡ ok_or o e → headed s p ≡ refuses past_end p
-    unfolding headed ascii
     short n =
         let gone = missing _ _ o cases n in
-        let cut : length s < p + header_length = omega (arith, gone.0, length-take (length s - p) (drop p s), length-drop p s) in
-        rw (marked s p past b mark ∙ is, lt-ltb _ _ cut) refl
+        cut s p past (sym mark ∙ is) (omega (arith, gone.0, length-take (length s - p) (drop p s), length-drop p s))
 
     pub told : {h : Bor (List ℕ)} {w k : ℕ} → Ok h ≡ ok_or o e → w ≡ table_in h.now → k ≡ length_in h.now
         → headed s p ≡ rows (length s) p (rule p (get_or h.now 2 0) w k)

@@ -10,6 +10,7 @@ use rule_package::HEADER_LENGTH;
 use rules::{Reason, Refusal};
 
 // The rule whose header stands at the place: behind the mark of 2 bytes the flag count in 1, the length in 2 and the table word in 8.
+#[tactic(auto, using(crate::proofs::Fields::cut))]
 pub fn read(bytes: &[u8], place: usize) -> Result<RuleAt, Refusal>
     requires { (place < length bytes.now) × (length bytes.now ≤ package_limit) }
     ensures { outcome_of rule_at_of result ≡ headed bytes.now place }

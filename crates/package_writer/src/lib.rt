@@ -48,8 +48,18 @@ fn put(flags: PackageFlags, table: u64, expression: &[u8], out: &mut [u8]) -> Re
         expression.len() as u16,
         table,
     ));
-    out[HEADER_LENGTH..length].copy_from_slice(expression);
+    put_all(expression, &mut out[HEADER_LENGTH..length]);
     Ok(length)
+}
+
+// A slice, whole. Byte by byte, because with `copy_from_slice` the library for C needs `memmove` from outside.
+fn put_all(bytes: &[u8], out: &mut [u8])
+    requires { length bytes.now ≡ length out.old }
+    ensures { out.new ≡ bytes.now }
+{
+    for i in 0..out.len() {
+        out[i] = bytes[i];
+    }
 }
 
 // The mark, the flag count, the count of the expression's bytes and the table word: 2 + 1 + 2 + 8 bytes.

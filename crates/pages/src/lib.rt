@@ -10,11 +10,12 @@ use std::io;
 use std::io::{Read, Write};
 use text::Page;
 
-// The page's text goes to `output`.
+// The page's text goes to `output`. Any count may be given, as the fields are public: past the end of the bytes it means all of them, as in `take`.
 pub fn write<W: Write>(output: &mut W, page: Page) -> io::Result<()>
-    ensures { OnOk result (Appends (W.contents output.old) (W.contents output.new) page.items) }
+    ensures { OnOk result (Appends (W.contents output.old) (W.contents output.new) (take page.count page.bytes)) }
 {
-    output.write_all(&page)
+    let count = page.count.min(page.bytes.len());
+    output.write_all(&page.bytes[..count])
 }
 
 // The page of the front of the input, as much of it as the buffer holds, goes to `output`. Where that much decides the page's text, it is that of the

@@ -1,6 +1,6 @@
--- Runs of bytes written into a lent buffer at a cursor, one after another: what is written, and the room that is left for the next. No proof of a
--- function needs these laws today: the code keeps what it writes by value, where `followed` of specs/Written says the same, and a buffer that holds
--- what was written before holds it so (`put-followed`). They rest on the laws of runs in a buffer (bits, Stored).
+-- Runs of bytes written into a lent buffer at a cursor, one after another: what is written, and the room that is left for the next. `Postfix` keeps
+-- what it writes by value, where `followed` of specs/Written says the same, and a buffer that holds what was written before holds it so
+-- (`put-followed`). They rest on the laws of runs in a buffer (bits, Stored).
 --   put-append                   == a run and another from where it ends are one run
 --   put-length                   == the buffer keeps its length
 --   put-eq, room-eq              == the same run, and the same room, under other names of the bytes and of their count
@@ -16,7 +16,8 @@ use lib.Seq.{sets, length-sets}
 use Rattle.bits.proofs.Stores.{sets-append}
 use Rattle.bits.proofs.Stored.{stored-append, stored-length}
 use Rattle.postfix.specs.Written.{Written, followed}
-use Rattle.postfix.specs.Put.{Cursor, Room, Put}
+use Rattle.postfix.specs.Put.{Room, Put}
+use Rattle.postfix.specs.declared.cursor.Cursor.{Cursor}
 
 module _ {l m : List ℕ} {k j : ℕ} {a b c : Cursor} {out mid after : List ℕ} where
   pub put-append : Put l k a b out mid → Put m j b c mid after → Put (l ++ m) (k + j) a c out after

@@ -1,15 +1,11 @@
 -- Records written into a lent buffer at a cursor: the room that they need, and what they leave behind.
---   Cursor                   == a place in the buffer, and how many records stand before it
 --   Room l a out             == the bytes l fit into the buffer from cursor a on, and there are no more records than bytes before it
 --   Put l k a b out after    == from cursor a to cursor b the bytes l were written, k records, and the rest of the buffer is as it was
 --   Writes t a b out after   == so for the records of the tree t
 use Rattle.std.specs.Prelude.{List, ◌≡◌, ℕ, ◌+◌, ◌≤◌, length}
 use Rattle.bits.specs.Stored.{Stored}
 use Rattle.rules.specs.Tree.{Tree, write, size}
-
-pub record Cursor : Type 0 where
-  pub place : ℕ
-  pub records : ℕ
+use Rattle.postfix.specs.declared.cursor.Cursor.{Cursor}
 
 pub record Room (l : List ℕ) (a : Cursor) (out : List ℕ) : Type 0 where
   pub fits : a.place + length l ≤ length out

@@ -1,7 +1,10 @@
 // Trees written as postfix records, each behind those that were written before: marks, leaves, products, OR chains, the raw form's balanced fold, and
 // what the cleanup writes for a whole OR family and for an absorption. After `build_monomial`, `build_or_chain`, `xor_tree`, `emit_raw_anf` and parts
-// of `cleanup_anf_memo` of `anf_cleanup.rs`. It rests on the places of a mask's ones (`mask_words`) and on the library's `arrayvec`.
+// of `cleanup_anf_memo` of `anf_cleanup.rs`. `cursor` has the same at any place of a lent buffer. It rests on the places of a mask's ones
+// (`mask_words`) and on the library's `arrayvec`.
 #![tactic(auto)]
+
+pub mod cursor;
 
 ghost use Rattle.std.specs.Prelude.{[], ◌∷◌, map, ◌+◌, ◌-◌, ◌*◌, ◌≤◌, ◌<◌, ◌≡◌, ◌++◌, length};
 ghost use Rattle.rules.specs.Cleanup.{atop};
@@ -10,6 +13,10 @@ ghost use Rattle.rules.specs.Tree.{CO, AN, NO, size, write};
 ghost use Rattle.postfix.specs.Written.{Fits, followed, with_tree, chained};
 
 use arrayvec::ArrayVec;
+pub use cursor::{
+    Cursor, put_absorption, put_constant, put_family, put_fold, put_leaf, put_mark, put_or_chain,
+    put_product, put_term,
+};
 use mask_words::Ones;
 use std::marker::Model;
 

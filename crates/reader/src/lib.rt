@@ -1,6 +1,6 @@
 // The reader of an expression's records: at a place it answers the record that begins there, with the first byte of each operand. It reads the
-// records from byte 0; `Reader::step` is the same for a walk over all of them, and `Reader::pass` keeps the first bytes of the operands so far. It
-// rests on `expr` for a record's mark, payload and operands.
+// records from byte 0; `Reader::step` is the same for a walk over all of them, and `Reader::pass` keeps the first bytes of the operands so far
+// (`keep`). It rests on `expr` for a record's mark, payload and operands.
 #![tactic(auto)]
 
 ghost use Rattle.std.specs.Prelude.{◌≡◌, ◌^◌, ◌≤◌, ◌<◌, length, get_or, set};
@@ -39,8 +39,9 @@ fn find(flags: RuleFlags, bytes: &[u8], place: usize) -> Result<Option<Node>, Re
     let mut starts = [0u16; RECORD_LIMIT];
     let mut reader = Reader::new(flags, bytes);
     while reader.place < place {
-        let Some(node) = reader.step(&starts)? else {
-            return Ok(None);
+        let answer = reader.step(&starts);
+        let Ok(Some(node)) = answer else {
+            return answer;
         };
         reader.pass(node, &mut starts);
     }
@@ -139,7 +140,7 @@ fn start(starts: &[u16], depth: usize, i: usize) -> usize
 
 // Keeps where the operand that a record leaves begins: with its first operand, which is kept there already, or with the record itself.
 #[inline]
-fn keep(kind: Kind, starts: &mut [u16], base: usize, place: usize)
+pub fn keep(kind: Kind, starts: &mut [u16], base: usize, place: usize)
     requires { (base < length starts.old) × (place < 2 ^ 16) }
     ensures { starts.new ≡ set starts.old base (begun (kind_of kind) place (get_or starts.old base 0)) }
 {

@@ -1,14 +1,21 @@
 // One recorded table, taken one way: its bits through the transform, or its recorded coefficients back. It rests on the
 // comparison of the two calls. Each buffer has three entries more than its result, which must stay as they were; on the way
 // back the coefficient words have three more too, which must be ignored.
-ghost use Rattle.std.specs.Prelude.{◌≡◌};
-ghost use Rattle.recorded_transforms.specs.Table.{transformed, restored};
+ghost use Rattle.std.specs.Prelude.{◌≡◌, ◌+◌, ◌^◌, ◌≤◌, length};
+ghost use Rattle.recorded_transforms.specs.Table.{transformed, restored, agreed};
 
 use crate::calls::{goes_back_to, transforms_to};
 use comparison::Outcome;
 use recorded::pattern::WORD;
 use recorded::sizes;
 use recorded::slices::{set_bits, set_pattern, set_table, set_words};
+
+// Which call is asked: the transform, or the way back.
+#[derive(Clone, Copy)]
+pub enum Way {
+    There,
+    Back,
+}
 
 // Room for the largest table, for one table after another: its entries, its words, the entries that come back, and what must be left.
 #[derive(Drop)]
@@ -20,6 +27,7 @@ pub struct Space {
 }
 
 impl Space {
+    // No clause: each comparison fills what it reads of the arrays, so no caller could tell what they begin with.
     pub fn new() -> Space {
         Space {
             table: [0; 65536],
@@ -68,17 +76,40 @@ impl Space {
     }
 }
 
-// These two take the arrays apart because parts of several fields, lent at once, get no proof. They stay two: a function of both would take every
-// array's length, what fills it, and the call.
+// Whether the library answers as recorded, in work space that the caller lends and keeps from table to table.
+pub fn agrees(
+    way: Way,
+    flags: usize,
+    bits: &[u8],
+    recorded: &[u8],
+    table: &mut [u64],
+    words: &mut [u64],
+    entries: &mut [u64],
+    left: &mut [u64],
+    expected: Outcome,
+) -> bool
+    requires { (2 ^ 16 ≤ length table.old) × (2 ^ 10 + 3 ≤ length words.old) × (2 ^ 16 + 3 ≤ length entries.old)
+        × (2 ^ 16 + 3 ≤ length left.old) }
+    ensures { result ≡ agreed way flags bits.now recorded.now expected }
+{
+    match way {
+        Way::There => there(flags, bits, recorded, table, words, left, expected),
+        Way::Back => back(flags, bits, recorded, words, entries, left, expected),
+    }
+}
+
+// These two serve lent slices and the arrays of a `Space`, which they take one by one because parts of several fields, lent at once, get no proof.
+// They stay two: a function of both would take every slice's length, what fills it, and the call.
 fn there(
     flags: usize,
     bits: &[u8],
     recorded: &[u8],
-    table: &mut [u64; 65536],
-    words: &mut [u64; 1027],
-    left: &mut [u64; 65539],
+    table: &mut [u64],
+    words: &mut [u64],
+    left: &mut [u64],
     expected: Outcome,
 ) -> bool
+    requires { (2 ^ 16 ≤ length table.old) × (2 ^ 10 + 3 ≤ length words.old) × (2 ^ 10 + 3 ≤ length left.old) }
     ensures { result ≡ transformed flags bits.now recorded.now expected }
 {
     let count = sizes::words(flags);
@@ -96,11 +127,12 @@ fn back(
     flags: usize,
     bits: &[u8],
     recorded: &[u8],
-    words: &mut [u64; 1027],
-    entries: &mut [u64; 65539],
-    left: &mut [u64; 65539],
+    words: &mut [u64],
+    entries: &mut [u64],
+    left: &mut [u64],
     expected: Outcome,
 ) -> bool
+    requires { (2 ^ 10 + 3 ≤ length words.old) × (2 ^ 16 + 3 ≤ length entries.old) × (2 ^ 16 + 3 ≤ length left.old) }
     ensures { result ≡ restored flags bits.now recorded.now expected }
 {
     let count = sizes::words(flags);

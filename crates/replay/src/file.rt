@@ -61,6 +61,28 @@ pub fn fills<R: Read>(file: &mut R, buffer: &mut [u8]) -> io::Result<bool>
     Ok(fronts::read(file, buffer)? == buffer.len())
 }
 
+// The file's next `size` bytes, at the front of a lent buffer, where the file has so many and the buffer the room. Who reads a part for each of many
+// items lends the buffer: the vector of `part` takes as long as its capacity, whatever its size, and more than once.
+pub fn lent<'a, R: Read>(
+    file: &mut R,
+    size: usize,
+    buffer: &'a mut [u8],
+) -> io::Result<Option<&'a [u8]>>
+    ensures whole { IfOk result (λ found. IfSome found (λ bytes. (length bytes.now ≡ size)
+        × Consumes (R.remaining file.old) (R.remaining file.new) bytes.now)) }
+    ensures lacking { IfOk result (λ found. IfNone found ((length buffer.old < size)
+        ⊎ IfSome (R.remaining file.old) (λ bytes. length bytes < size))) }
+{
+    if size > buffer.len() {
+        return Ok(None);
+    }
+    let front = &mut buffer[..size];
+    if !fills(file, front)? {
+        return Ok(None);
+    }
+    Ok(Some(front))
+}
+
 // The file's next `size` bytes, where it has so many and that is at most MOST. Here and below MOST is bounded, because no type holds a const
 // parameter's bound.
 pub fn part<const MOST: usize, R: Read>(

@@ -13,7 +13,16 @@ pub const HEAD: usize = 38;
 pub fn is_same<R: Read>(file: &mut R, head: &[u8], wrong: Wrong) -> io::Result<bool> {
     let one = usize::from(pair_at(head, 27));
     let other = usize::from(pair_at(head, 29));
-    let Some((first, second)) = file::two_parts::<PART_BYTES, R>(file, one, other)? else {
+    // Where either is longer than a part, nothing is read.
+    if other > PART_BYTES {
+        return Ok(false);
+    }
+    let mut first = [0; PART_BYTES];
+    let mut second = [0; PART_BYTES];
+    let Some(first) = file::lent(file, one, &mut first)? else {
+        return Ok(false);
+    };
+    let Some(second) = file::lent(file, other, &mut second)? else {
         return Ok(false);
     };
     // By what the outcome's number, and its first result, are changed. A refusal's place is its first result.
@@ -22,5 +31,5 @@ pub fn is_same<R: Read>(file: &mut R, head: &[u8], wrong: Wrong) -> io::Result<b
         Wrong::Number => (1, 0),
         Wrong::Place => (0, 1),
     };
-    Ok(agrees(head, &first, &second, number, res))
+    Ok(agrees(head, first, second, number, res))
 }

@@ -8,12 +8,12 @@ use std::io::Read;
 
 pub const HEAD: usize = 21;
 
-// The expressions after the head, of so many records, and which of the two is to be chosen.
+// The expressions after the head, of so many records, and which of the two is to be chosen. Both are read before either is looked at, so that the
+// next pair begins behind this one also where the first has more records than an expression may.
 fn is_chosen<R: Read>(file: &mut R, one: usize, other: usize, chosen: usize) -> io::Result<bool> {
-    let Some(first) = records::read(file, one)? else {
-        return Ok(false);
-    };
-    let Some(second) = records::read(file, other)? else {
+    let first = records::read(file, one)?;
+    let second = records::read(file, other)?;
+    let (Some(first), Some(second)) = (first, second) else {
         return Ok(false);
     };
     Ok(chooses(&first, &second, chosen))

@@ -17,11 +17,13 @@ const MASK_BYTES: usize = 131072;
 pub fn is_same<R: Read>(file: &mut R, head: &[u8], asked: Asked) -> io::Result<bool> {
     let flags = usize::from(byte_at(head, 0));
     let size = 2 * usize::from(pair_at(head, 2));
-    let Some(bytes) = file::part::<COEFFICIENT_BYTES, R>(file, sizes::bytes(flags))? else {
+    let mut bytes = [0; COEFFICIENT_BYTES];
+    let mut masks = [0; MASK_BYTES];
+    let Some(bytes) = file::lent(file, sizes::bytes(flags), &mut bytes)? else {
         return Ok(false);
     };
-    let Some(masks) = file::part::<MASK_BYTES, R>(file, size)? else {
+    let Some(masks) = file::lent(file, size, &mut masks)? else {
         return Ok(false);
     };
-    Ok(agrees_form(flags, &bytes, head, &masks, asked))
+    Ok(agrees_form(flags, bytes, head, masks, asked))
 }

@@ -10,8 +10,9 @@ use std::io::Read;
 pub const HEAD: usize = 27;
 
 pub fn is_same<R: Read>(file: &mut R, head: &[u8]) -> io::Result<bool> {
-    let Some(bytes) = file::part::<PART_BYTES, R>(file, usize::from(pair_at(head, 16)))? else {
+    let mut bytes = [0; PART_BYTES];
+    let Some(bytes) = file::lent(file, usize::from(pair_at(head, 16)), &mut bytes)? else {
         return Ok(false);
     };
-    Ok(agrees(head, &bytes))
+    Ok(agrees(head, bytes))
 }

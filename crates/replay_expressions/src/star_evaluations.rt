@@ -12,8 +12,17 @@ pub const HEAD: usize = 20;
 pub fn is_same<R: Read>(file: &mut R, head: &[u8]) -> io::Result<bool> {
     let size = 8 * usize::from(byte_at(head, 8));
     let length = usize::from(pair_at(head, 9));
-    let Some((words, bytes)) = file::two_parts::<PART_BYTES, R>(file, size, length)? else {
+    // Where the expression is longer than a part, nothing is read.
+    if length > PART_BYTES {
+        return Ok(false);
+    }
+    let mut words = [0; PART_BYTES];
+    let mut bytes = [0; PART_BYTES];
+    let Some(words) = file::lent(file, size, &mut words)? else {
         return Ok(false);
     };
-    Ok(agrees(head, &words, &bytes))
+    let Some(bytes) = file::lent(file, length, &mut bytes)? else {
+        return Ok(false);
+    };
+    Ok(agrees(head, words, bytes))
 }

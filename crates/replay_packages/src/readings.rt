@@ -17,8 +17,13 @@ pub fn compared<R: Read>(file: &mut R) -> io::Result<Tally> {
     let mut size = [0; 4];
     file::fills(file, &mut size)?;
     let size = half_at(&size, 0) as usize;
-    let Some(mut package) = file::part::<PACKAGE_BYTES, R>(file, size)? else {
+    let mut package = [0; PACKAGE_BYTES];
+    if size > PACKAGE_BYTES {
         return Ok(Tally::default());
-    };
-    items::compared::<HEAD, R, _>(file, |_, head| Ok(agrees(head, &mut package)))
+    }
+    let package = &mut package[..size];
+    if !file::fills(file, package)? {
+        return Ok(Tally::default());
+    }
+    items::compared::<HEAD, R, _>(file, |_, head| Ok(agrees(head, package)))
 }

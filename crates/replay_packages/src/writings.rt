@@ -12,8 +12,17 @@ pub const HEAD: usize = 23;
 pub fn is_same<R: Read>(file: &mut R, head: &[u8]) -> io::Result<bool> {
     let length = usize::from(pair_at(head, 16));
     let room = usize::from(pair_at(head, 18));
-    let Some((expression, after)) = file::two_parts::<PART_BYTES, R>(file, length, room)? else {
+    // Where either is longer than a part, nothing is read.
+    if room > PART_BYTES {
+        return Ok(false);
+    }
+    let mut expression = [0; PART_BYTES];
+    let mut after = [0; PART_BYTES];
+    let Some(expression) = file::lent(file, length, &mut expression)? else {
         return Ok(false);
     };
-    Ok(agrees(head, &expression, &after))
+    let Some(after) = file::lent(file, room, &mut after)? else {
+        return Ok(false);
+    };
+    Ok(agrees(head, expression, after))
 }

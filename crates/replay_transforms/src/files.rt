@@ -52,10 +52,15 @@ fn is_same_sample<W: Way, R: Read>(
     flags: usize,
 ) -> io::Result<bool> {
     let size = sizes::bytes(flags);
-    let Some((bits, recorded)) = file::two_parts::<TABLE_BYTES, R>(file, size, size)? else {
+    let mut bits = [0; TABLE_BYTES];
+    let mut recorded = [0; TABLE_BYTES];
+    let Some(bits) = file::lent(file, size, &mut bits)? else {
         return Ok(false);
     };
-    Ok(W::agrees(space, flags, &bits, &recorded))
+    let Some(recorded) = file::lent(file, size, &mut recorded)? else {
+        return Ok(false);
+    };
+    Ok(W::agrees(space, flags, bits, recorded))
 }
 
 pub fn samples<W: Way, R: Read>(file: &mut R) -> io::Result<Tally> {

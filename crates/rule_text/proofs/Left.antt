@@ -1,6 +1,7 @@
 -- What the walk that prints an expression's records keeps: the records from its place on are left to print. It rests on the records of a tree
 -- (RecordList), and on what is read at a place (expr, ReadRecord and Marks; laws, RecordAt).
 --   after p ks               == the text of the records ks, of which the first begins at byte p
+--   after_none, after_more   == of no record, and of one before others
 --   Left                     == what the walk keeps: whatever writes that text on the page has written the whole
 --   Next w r, left-next      == r is the next record; what is read over two operands is
 --   left-found               == where bytes are left none is refused
@@ -35,12 +36,12 @@ unfoldable pub after : ℕ → List Kind → List ℕ
 after zero ks = drop 1 (each spaced ks)
 after (suc p) ks = each spaced ks
 
-after_none : (p : ℕ) → after p [] ≡ []
+pub after_none : (p : ℕ) → after p [] ≡ []
 unfolding after
 after_none zero = refl
 after_none (suc p) = refl
 
-after_more : (p : ℕ) (k : Kind) (ks : List Kind) (q : ℕ) → p < q → after p (k ∷ ks) ≡ gap p ++ kind_text k ++ after q ks
+pub after_more : (p : ℕ) (k : Kind) (ks : List Kind) (q : ℕ) → p < q → after p (k ∷ ks) ≡ gap p ++ kind_text k ++ after q ks
 unfolding after gap ascii
 after_more p k ks zero h = absurd (omega arith)
 after_more zero k ks (suc q) h = refl

@@ -1,5 +1,6 @@
 pub mod RecordList
 pub mod Left
+pub mod LeftStored
 pub mod Printed
 pub mod Report
 pub mod Compiling

@@ -1,13 +1,14 @@
 -- The three lines of a rule: they are document 01's report, and they fit a page. It rests on the lengths of numbers (text, Decimal) and of records
 -- (RecordList), and on the limits of what the compiler writes (laws, Fits).
---   length-lines     == the lines of what can be printed fit a page
+--   length-lines     == the lines fit a page
+--   length-printed   == so of what can be printed
 --   report-lines     == the report of a table is the lines of what the compiler writes for it
 --   made-compiled    == what the compiler writes is read back as its tree
 --   printable        == what the compiler writes for a table of up to six flags can be printed
 --   compile-gives    == the compiler does not refuse a complete table of up to six flags and 963 bytes of room
 use mathlib.Core.List.{List, append_assoc}
 use mathlib.Core.Path.{◌≡◌, ap}
-use Prim.Native.Nat.{ℕ, ◌^◌, ◌≤◌}
+use Prim.Native.Nat.{ℕ, ◌^◌, ◌≤◌, ◌<◌}
 use native.Mathlib.Omega.{arith}
 use lib.ListN.{length, length-append}
 use borrow.Author.Tests.{le-ltb, le-leb}
@@ -23,19 +24,15 @@ use Rattle.laws.proofs.reading.ReadBack.{made-write}
 use Rattle.rules.specs.Ascii.{ascii}
 use Rattle.text.specs.Page.{page_bytes}
 use Rattle.text.proofs.Decimal.{length-decimal}
-use Rattle.rule_text.specs.inner.Parts.{shown, lines, Printable}
+use Rattle.rule_text.specs.inner.Parts.{shown, lines, text_limit, Printable}
 use Rattle.rule_text.proofs.RecordList.{length-records}
 
-pub length-lines : {n c r : ℕ} {s : List ℕ} → Printable n s c r → length (lines n (shown (made n s)) c r) ≤ page_bytes
+pub length-lines : (n : ℕ) (l : List ℕ) (c r : ℕ) → n < 1000 → length l ≤ text_limit → c < 1000 → r < 1000 → length (lines n l c r) ≤ page_bytes
 unfolding lines ascii
-length-lines {n} {c} {r} {s} p =
-    simp length-append (omega (
-      arith,
-      p.records,
-      length-decimal 1 n (omega arith) (omega (arith, p.flags)) (omega (arith, p.flags)),
-      length-decimal 3 c (omega arith) (omega (arith, p.costs)) (omega (arith, p.costs)),
-      length-decimal 3 r (omega arith) (omega (arith, p.costs)) (omega (arith, p.costs)),
-    ))
+length-lines n l c r a b e f = simp length-append (omega (arith, length-decimal 2 n a, length-decimal 2 c e, length-decimal 2 r f))
+
+pub length-printed : {n c r : ℕ} {s : List ℕ} → Printable n s c r → length (lines n (shown (made n s)) c r) ≤ page_bytes
+length-printed {n} {c} {r} {s} p = length-lines n (shown (made n s)) c r (omega (arith, p.flags)) p.records p.costs.0 p.costs.1
 
 module _ (n : ℕ) (table : List ℕ) where
   pub report-lines : report n table ≡ lines n (records (compiled n table)) (cost (compiled n table)) (raw_cost (table_form n table))

@@ -11,8 +11,8 @@ ghost use Rattle.text.specs.Page.{Shows};
 ghost use Rattle.rule_text.specs.inner.Parts.{shown, lines, Printable};
 
 use rules::{BYTE_LIMIT, RuleFlags};
-use text::Page;
 use text::table::{Digits, TABLE_DIGITS};
+use text::{Page, Text};
 
 // What is written of input that is no line of a rule.
 const BAD_LINE: &[u8] = b"bad line\n";
@@ -22,14 +22,14 @@ fn rule_page(flags: RuleFlags, expression: &[u8], cost: usize, raw: usize) -> Pa
     requires { Printable flags.count expression.now cost raw }
     ensures { Shows (lines flags.count (shown (made flags.count expression.now)) cost raw) result }
 {
-    let mut page = Page::new();
-    text::push_number(&mut page, b"flags ", flags.count);
-    text::push(&mut page, b"\n");
-    records::push_records(&mut page, flags, expression);
-    text::push_number(&mut page, b"\ncost ", cost);
-    text::push_number(&mut page, b" raw ", raw);
-    text::push(&mut page, b"\n");
-    page
+    let mut lines = Text::new();
+    text::push_number(&mut lines, b"flags ", flags.count);
+    text::push(&mut lines, b"\n");
+    records::push_records(&mut lines, flags, expression);
+    text::push_number(&mut lines, b"\ncost ", cost);
+    text::push_number(&mut lines, b" raw ", raw);
+    text::push(&mut lines, b"\n");
+    text::page_of(&lines)
 }
 
 // The page of the rule whose table is these digits. The compiler refuses no complete table of up to six flags.

@@ -7,11 +7,11 @@ ghost use Rattle.rule_text.specs.inner.Parts.{gap, kind_text, shown};
 
 use expr::Kind;
 use rules::RuleFlags;
-use text::Page;
+use text::Text;
 
 // A record's mark, and its payload as a digit.
 #[tactic(auto, unfolding(rules::specs::Ascii::ascii, crate::specs::inner::Parts::kind_text))]
-fn push_kind(page: &mut Page, kind: Kind)
+fn push_kind(page: &mut Text, kind: Kind)
     requires { FlagBelow 10 (kind_of kind) }
     ensures { Written page_bytes (kind_text (kind_of kind)) page.old page.new }
 {
@@ -27,7 +27,7 @@ fn push_kind(page: &mut Page, kind: Kind)
 
 // A space before every record but the first.
 #[tactic(auto, unfolding(rules::specs::Ascii::ascii, crate::specs::inner::Parts::gap))]
-fn push_gap(page: &mut Page, place: usize)
+fn push_gap(page: &mut Text, place: usize)
     ensures { Written page_bytes (gap place) page.old page.new }
 {
     if place != 0 {
@@ -36,7 +36,7 @@ fn push_gap(page: &mut Page, place: usize)
 }
 
 // The records, one space between two.
-pub fn push_records(page: &mut Page, flags: RuleFlags, expression: &[u8])
+pub fn push_records(page: &mut Text, flags: RuleFlags, expression: &[u8])
     requires { WellFormed flags.count expression.now }
     ensures { Written page_bytes (shown (made flags.count expression.now)) page.old page.new }
 {

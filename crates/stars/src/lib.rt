@@ -10,6 +10,7 @@ use lanes::Lanes;
 use rules::{Reason, Refusal, RuleFlags};
 
 // The values for all stars; `words` has flag i in word i, and what is past the flags is ignored.
+#[tactic(auto, unfolding(rules::specs::Calls::evaluate_stars))]
 pub fn evaluate_stars(flags: usize, words: &[u64], bytes: &[u8]) -> Result<u64, Refusal>
     ensures { star_evaluation_of result ≡ Calls.evaluate_stars flags words.now bytes.now }
 {

@@ -6,13 +6,14 @@
 use mathlib.Core.Bool.{Bool, true, false}
 use mathlib.Core.List.{List, [], ◌∷◌, ◌++◌}
 use mathlib.Core.Path.{◌≡◌, sym, ap, ◌∙◌}
-use Prim.Native.Nat.{ℕ, ◌+◌, ◌/◌, ◌%◌, ◌^◌, ◌≤◌, ◌<◌}
+use Prim.Native.Nat.{ℕ, zero, suc, ◌+◌, ◌/◌, ◌%◌, ◌^◌, ◌≤◌, ◌<◌}
+use native.Mathlib.Decide.{dec_lt}
 use native.Mathlib.Omega.{arith}
 use lib.Dec.{ltb}
-use lib.ListN.{length}
+use lib.ListN.{length, length-append}
 use borrow.Author.Tests.{lt-ltb, le-ltb}
 use Rattle.std.specs.Fmt as library
-use Rattle.std.proofs.lemmas.Fmt.{decimal_by_steps, length-decimal-le}
+use Rattle.std.proofs.lemmas.Fmt.{decimal_by_steps}
 use Rattle.bits.specs.Fixed.{below}
 use Rattle.bits.proofs.Fixed.{below_less, fixed-step}
 use Rattle.rules.specs.Text.{decimal_turn, decimal}
@@ -43,5 +44,11 @@ decimal-printed =
     decimal_by_steps (λ k l. l ≡ decimal k) (λ k h. sym (decimal-one k h))
     (λ k l h e. ap (λ (m : List ℕ). m ++ ((48 + k % 10) ∷ [])) e ∙ sym (decimal-more k h))
 
-pub length-decimal : (d k : ℕ) → 0 < d → k < 10 ^ d → k < 2 ^ 64 → length (decimal k) ≤ d
-length-decimal d k some h fits = omega (arith, length-decimal-le d k some h fits, ap length (decimal-printed k fits))
+pub length-decimal : (d k : ℕ) → k < 10 ^ suc d → length (decimal k) ≤ suc d
+length-decimal zero k h = omega (arith, ap length (decimal-one k h))
+length-decimal (suc d) k h = elim (dec_lt k 10) [
+  | yes a ↦ omega (arith, ap length (decimal-one k a))
+  | no a ↦
+      let tens : k / 10 < 10 ^ suc d = omega arith in
+      omega (arith, ap length (decimal-more k (omega arith)), length-append (decimal (k / 10)) ((48 + k % 10) ∷ []), length-decimal d (k / 10) tens)
+]

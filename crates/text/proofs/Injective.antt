@@ -5,12 +5,14 @@ use mathlib.Core.List.{List}
 use mathlib.Core.Path.{◌≡◌, refl, sym, ap, subst, ◌∙◌}
 use Prim.Native.Nat.{ℕ, ◌≤◌}
 use native.Mathlib.Bridge.{le_prop}
-use lib.ListN.{length}
-use Rattle.arrayvec.specs.ArrayVec.{ArrayVec, array_vec_len}
+use native.Mathlib.Omega.{arith}
+use lib.ListN.{length, take}
+use lib.Seq.{length-take-le}
 use Rattle.std.specs.Prelude.{Option as Optional, Some, None}
 use Rattle.rules.specs.declared.flags.Flags.{Flags}
 use Rattle.text.specs.TableDigits.{size_of}
 use Rattle.text.specs.Page.{Shows}
+use Rattle.text.specs.declared.Page.{Page}
 
 -- a count within the limit is told by the count alone
 counted : (a b : ℕ) (x : a ≤ 6) (y : b ≤ 6) → a ≡ b
@@ -25,5 +27,10 @@ size_of-injective (Some f) None e = cc
 size_of-injective None (Some f) e = cc
 size_of-injective None None e = refl
 
-pub shows_same : {l : List ℕ} (p q : ArrayVec ℕ) → Shows l p → Shows l q → (array_vec_len p ≡ array_vec_len q) × (p.items ≡ q.items)
-shows_same p q s t = let e = s.text ∙ sym t.text in (ap (λ (b : List ℕ). length b) e, e)
+shows-count : {l : List ℕ} {page : Page} → Shows l page → page.count ≡ length l
+shows-count {page = page} s =
+    sym (length-take-le page.count page.bytes (omega (arith, s.within, s.size))) ∙ ap length s.text
+
+pub shows_same : {l : List ℕ} (p q : Page) → Shows l p → Shows l q
+    → (p.count ≡ q.count) × (take p.count p.bytes ≡ take q.count q.bytes)
+shows_same p q s t = (shows-count s ∙ sym (shows-count t), s.text ∙ sym t.text)

@@ -1,7 +1,9 @@
-// What the texts for people share: the page that a program writes, numbers in it, and the digits of a table that is read.
+// What the texts for people share: the page that a program writes, numbers in it, bytes and numbers at a place of a lent buffer, and the digits of a
+// table that is read.
 // It rests on `rules`, and on the library's vector of fixed capacity and its digits.
 #![tactic(auto)]
 
+pub mod out;
 pub mod table;
 
 ghost use Rattle.std.specs.Prelude.{◌++◌, ◌≤◌, length};
@@ -14,17 +16,25 @@ use itoa::Buffer;
 // A page is long enough for the three lines of any rule: line two has at most 1,347 bytes (`text_limit` of `rule_text`).
 pub const PAGE_BYTES: usize = 1400;
 
-// The output of a program.
-pub type Page = ArrayVec<u8, PAGE_BYTES>;
+// The output of a program: the first `count` bytes.
+#[derive(Clone, Copy, Debug, PartialEq, Eq)]
+pub struct Page {
+    pub bytes: [u8; PAGE_BYTES],
+    pub count: usize,
+}
+
+// The text of a page while it is put together.
+pub type Text = ArrayVec<u8, PAGE_BYTES>;
 
 // The page of one text.
 pub fn page_of(text: &[u8]) -> Page
     requires { length text.now ≤ page_bytes }
     ensures { Shows text.now result }
 {
-    let mut page = Page::new();
-    push(&mut page, text);
-    page
+    let mut bytes = [0u8; PAGE_BYTES];
+    let count = text.len();
+    bytes[..count].copy_from_slice(text);
+    Page { bytes, count }
 }
 
 // A text behind what the page has, of any capacity. Nothing is asked here of the page, and nothing is said of it where it has no room for the text:

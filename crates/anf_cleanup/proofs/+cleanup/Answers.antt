@@ -27,9 +27,9 @@ use Rattle.anf_cleanup.proofs.Candidates.{cube-fewer, family-fewer}
 use Rattle.anf_cleanup.proofs.Contest.{partial-planned, product-fits, rest-fits, whole-planned, rest-planned}
 use Rattle.anf_cleanup.proofs.Cubes.{search-start, search-mask, search-kept, search-more, search-done}
 use Rattle.anf_cleanup.proofs.Rules.{cleanup-constant, cleanup-family, common_cube-built, common_cube-none, partial_or-built, partial_or-none}
-use Rattle.anf_cleanup.proofs.Plans.{planned-chosen, planned-contest, planned-single, improved-none, improved-one}
+use Rattle.anf_cleanup.proofs.Plans.{planned-chosen, planned-contest, planned-single, improved-none, improved-only}
 use Rattle.anf_cleanup.proofs.Plans.{cost-constant, cost-family, cost-raw}
-use Rattle.anf_cleanup.proofs.Saving.{candidate-of, known-cube, tried-passed}
+use Rattle.anf_cleanup.proofs.Saving.{candidate-of, known-planned, tried-passed}
 use Rattle.anf_cleanup.proofs.+cleanup.Goals as goal
 
 pub best_cube-loop-cube-init : goal.best_cube-loop-cube-init
@@ -107,7 +107,7 @@ common_cube-overflow_add-product-2 t c = omega (arith, product-fits c.args.form 
 
 pub common_cube-returns-then-is_empty : goal.common_cube-returns-then-is_empty
 common_cube-returns-then-is_empty t c =
-    improved-one _ _ _ _ _ (common_cube-built _ c.in-Some.found.cube c.in-Some.ensures.best)
+    improved-only _ _ _ _ _ (common_cube-built _ c.in-Some.found.cube c.in-Some.ensures.best)
     (c.cheaper.ensures _ _ (whole-planned _ _ c.in-Some.ensures _ c.product_cost.ensures _ c.uncovered-rest.ensures
     (eqb-true _ 0 (sym c.is_empty.ensures ∙ c.if-is_empty.true)) _ c.factored.ensures))
 
@@ -127,7 +127,7 @@ common_cube-overflow_add-cost-2 t c =
 
 pub common_cube-returns : goal.common_cube-returns
 common_cube-returns t c =
-    improved-one _ _ _ _ _ (common_cube-built _ c.in-Some.found.cube c.in-Some.ensures.best)
+    improved-only _ _ _ _ _ (common_cube-built _ c.in-Some.found.cube c.in-Some.ensures.best)
     (c.cheaper-2.ensures _ _ (rest-planned _ _ c.in-Some.ensures _ c.product_cost.ensures _ c.uncovered-rest.ensures
     (eqb-false _ 0 (sym c.is_empty.ensures ∙ c.if-is_empty.false)) _ c.cleanup-plan.ensures _ c.factored-2.ensures))
 
@@ -153,7 +153,7 @@ partial_or-overflow_add-cost-2 t c =
 pub partial_or-returns : goal.partial_or-returns
 partial_or-returns t c =
     let chosen = (some-positive _ _ c.in-Some.ensures).1 in
-    improved-one _ _ _ _ _ (partial_or-built _ c.in-Some.family chosen)
+    improved-only _ _ _ _ _ (partial_or-built _ c.in-Some.family chosen)
     (c.cheaper.ensures _ _
     (partial-planned _ c.in-Some.family chosen _ c.without-rest.ensures _
     (c.chain_cost.ensures.0 ∙ ap (λ (m : ℕ). cost (or_chain m)) c.from.ensures) _ c.cleanup-plan.ensures))
@@ -167,7 +167,7 @@ try_cube-returns-then-not-is_cube t c =
 pub try_cube-returns-then-gross-most : goal.try_cube-returns-then-gross-most
 try_cube-returns-then-gross-most t c =
     let u = candidate-of c.args.form c.args.cube _ c.is_cube.ensures c.if-not-is_cube.false refl in
-    tried-passed _ c.args.cube _ u _ (omega (arith, c.if-gross-most.true, c.gross_saving-gross.ensures))
+    tried-passed _ _ _ u _ (omega (arith, c.if-gross-most.true, c.gross_saving-gross.ensures))
 
 pub try_cube-overflow_sub-gross : goal.try_cube-overflow_sub-gross
 try_cube-overflow_sub-gross t c = omega (arith, c.least_cost.ensures, c.gross_saving-gross.ensures, c.inner_form-inner.ensures.bounds)
@@ -175,7 +175,7 @@ try_cube-overflow_sub-gross t c = omega (arith, c.least_cost.ensures, c.gross_sa
 pub try_cube-returns-then-gross-least_cost : goal.try_cube-returns-then-gross-least_cost
 try_cube-returns-then-gross-least_cost t c =
     let u = candidate-of c.args.form c.args.cube _ c.is_cube.ensures c.if-not-is_cube.false c.inner_form-inner.ensures.stripped in
-    tried-passed _ c.args.cube _ u _ (omega (arith, c.if-gross-least_cost.true, c.least_cost.ensures, c.gross_saving-gross.ensures))
+    tried-passed _ _ _ u _ (omega (arith, c.if-gross-least_cost.true, c.least_cost.ensures, c.gross_saving-gross.ensures))
 
 pub try_cube-cleanup-plan-requires : goal.try_cube-cleanup-plan-requires
 try_cube-cleanup-plan-requires t c = omega (arith, c.decreases, c.inner_form-inner.ensures.fewer)
@@ -187,10 +187,10 @@ try_cube-overflow_sub-saving t c =
 pub try_cube-returns-then-saving-most : goal.try_cube-returns-then-saving-most
 try_cube-returns-then-saving-most t c =
     let u = candidate-of c.args.form c.args.cube _ c.is_cube.ensures c.if-not-is_cube.false c.inner_form-inner.ensures.stripped in
-    let known = known-cube _ c.args.cube _ u _ _ c.gross_saving-gross.ensures c.cleanup-plan.ensures in
+    let known = known-planned _ c.args.cube _ u _ _ c.gross_saving-gross.ensures c.cleanup-plan.ensures in
     λ _. omega (arith, known.saving)
 
 pub try_cube-returns : goal.try_cube-returns
 try_cube-returns t c =
     let u = candidate-of c.args.form c.args.cube _ c.is_cube.ensures c.if-not-is_cube.false c.inner_form-inner.ensures.stripped in
-    (refl, omega arith, known-cube _ c.args.cube _ u _ _ c.gross_saving-gross.ensures c.cleanup-plan.ensures)
+    (refl, omega arith, known-planned _ c.args.cube _ u _ _ c.gross_saving-gross.ensures c.cleanup-plan.ensures)

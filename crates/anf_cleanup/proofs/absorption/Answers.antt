@@ -18,8 +18,8 @@ use Rattle.anf_cleanup.specs.Plan.{built}
 use Rattle.anf_cleanup.specs.declared.Choice.TheVariants.{Absorption}
 use Rattle.form.proofs.Literals.{constant-digit}
 use Rattle.form.proofs.Masks.{pair-bounds}
-use Rattle.anf_cleanup.proofs.Bounds.{product-limit}
-use Rattle.anf_cleanup.proofs.Plans.{planned-chosen, improved-none, improved-one, cost-absorption}
+use Rattle.anf_cleanup.proofs.Bounds.{monomial-limit}
+use Rattle.anf_cleanup.proofs.Plans.{planned-chosen, improved-none, improved-only, cost-absorption}
 use Rattle.anf_cleanup.proofs.Rules.{absorption-none, absorption-apart, absorption-some}
 use Rattle.anf_cleanup.proofs.absorption.Goals as goal
 
@@ -51,10 +51,10 @@ pub of-rest-requires : goal.of-rest-requires
 of-rest-requires c = omega (arith, pair-bounds c.args.form _ _ c.pair-pair.ensures, c.from-first.ensures, c.from-second.ensures)
 
 pub overflow_add-cost : goal.overflow_add-cost
-overflow_add-cost c = omega (arith, product-limit c.pair-pair.result.first, product-limit c.of-rest.result)
+overflow_add-cost c = omega (arith, monomial-limit c.pair-pair.result.first, monomial-limit c.of-rest.result)
 
 pub overflow_add-cost-2 : goal.overflow_add-cost-2
-overflow_add-cost-2 c = omega (arith, product-limit c.pair-pair.result.first, product-limit c.of-rest.result)
+overflow_add-cost-2 c = omega (arith, monomial-limit c.pair-pair.result.first, monomial-limit c.of-rest.result)
 
 pub overflow_mul-constant : goal.overflow_mul-constant
 overflow_mul-constant c =
@@ -66,8 +66,8 @@ overflow_add-cost-3 c =
       arith,
       constant-digit c.args.form c.constant.ensures c.from-constant.ensures,
       digit-le (constant (masks c.args.form)),
-      product-limit c.pair-pair.result.first,
-      product-limit c.of-rest.result,
+      monomial-limit c.pair-pair.result.first,
+      monomial-limit c.of-rest.result,
     )
 
 pub returns : goal.returns
@@ -76,6 +76,6 @@ returns c =
     absorbed _ c.pair-pair.result c.pair-pair.ensures c.from-first.ensures c.from-second.ensures c.if-first-second.false
     c.of-rest.result c.of-rest.ensures in
     let d = constant-digit c.args.form c.constant.ensures c.from-constant.ensures in
-    improved-one _ _ _ _ _ u.0
+    improved-only _ _ _ _ _ u.0
     (c.cheaper.ensures _ _
     (planned-chosen _ Absorption _ _ _ _ c.whole.ensures (u.1 _ _ _ c.product_cost.ensures c.product_cost-2.ensures d) u.0 tt _ refl))

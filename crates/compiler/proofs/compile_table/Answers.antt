@@ -37,5 +37,5 @@ returns c =
     let same = ap (λ (l : List ℕ). compile_form l (length out)) (sym c.form-form.ensures) in
     let writes = c.emit.ensures ∙ ap (λ (w : Written). with_tree w (cleanup (masks c.form-form.result))) c.new-written.ensures in
     let room = rw c.bytes-bytes.ensures at c.if-out-bytes.false in
-    rw (c.copy_from_slice.ensures.after, c.records.ensures, c.bytes-bytes.ensures)
-    (told-expression _ out _ same _ writes _ _ room c.cleanup-plan.ensures.costs c.raw_cost-raw.ensures)
+    rw (c.copy_from_slice.ensures.after, c.bytes-bytes.ensures)
+    (told-expression _ out _ same _ writes _ _ _ room c.records.ensures c.cleanup-plan.ensures.costs c.raw_cost-raw.ensures)

@@ -5,7 +5,8 @@
 use Rattle.std.specs.Prelude.{List, ℕ, Option, IfSome}
 use Rattle.anf_cleanup.specs.Plan.{made, Allowed}
 use Rattle.anf_cleanup.specs.declared.Choice.{Choice}
-use Rattle.postfix.specs.Put.{Cursor, Room}
+use Rattle.postfix.specs.Put.{Room}
+use Rattle.postfix.specs.declared.cursor.Cursor.{Cursor}
 use Rattle.rules.specs.Tree.{write}
 
 pub record Due (o : Option Choice) (l : List ℕ) (a : Cursor) (out : List ℕ) : Type 0 where

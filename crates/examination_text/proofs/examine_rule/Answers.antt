@@ -1,6 +1,9 @@
--- `examination_text::examine_rule` meets its contract: each of its answers is one law of Input.
+-- `examination_text::examine_rule` meets its contract: each of its answers is one law of Input. Where what stands behind the second line is tested,
+-- the answers know the length of a piece from its front too, so that they hold for any test of that length.
 use mathlib.Core.Path.{◌≡◌, sym, ◌∙◌}
+use Prim.Native.Nat.{ℕ}
 use native.Mathlib.Omega.{arith}
+use lib.ListN.{length-take}
 use borrow.Author.Tests.{tests}
 use Rattle.rules.specs.Ascii.{ascii}
 use Rattle.text.proofs.Shown.{shows-eq}
@@ -37,9 +40,9 @@ unfolding ascii
 returns-then-not-is_empty c =
     let s = c.args.input.now in
     let a = c.in-Some-Some-Some-None in
+    let more = lines-more s c.of-lines.ensures a.ensures.steps a.ensures'.steps a.ensures''.steps a.ensures'''.steps.0 in
     shows-eq
-    (sym (page-lines s c.if-input-gt-LONGEST.false
-    ∙ lines-more s c.of-lines.ensures a.ensures.steps a.ensures'.steps a.ensures''.steps a.ensures'''.steps.0 (λ e. omega (arith, tests, e))))
+    (sym (page-lines s c.if-input-gt-LONGEST.false ∙ more (λ e. omega (arith, tests, length-take {A = ℕ}, e))))
     c.page_of-then-not-is_empty.ensures
 
 pub lines_page-requires : goal.lines_page-requires
@@ -51,7 +54,7 @@ pub returns : goal.returns
 returns c =
     let s = c.args.input.now in
     let a = c.in-Some-Some-Some-None in
+    let all = lines-all s c.of-lines.ensures a.ensures.steps a.ensures'.steps a.ensures''.steps a.ensures'''.steps.0 in
     shows-eq
-    (sym (page-lines s c.if-input-gt-LONGEST.false
-    ∙ lines-all s c.of-lines.ensures a.ensures.steps a.ensures'.steps a.ensures''.steps a.ensures'''.steps.0 (omega (arith, tests))))
+    (sym (page-lines s c.if-input-gt-LONGEST.false ∙ all (omega (arith, tests, length-take {A = ℕ}))))
     c.lines_page.ensures

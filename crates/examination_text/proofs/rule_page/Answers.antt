@@ -41,6 +41,7 @@ returns c =
     let second : c.deref-2.result.now ≡ expression ts = c.deref-2.ensures.0 ∙ c.in-Some.ensures.some.1 in
     let third : c.deref-3.result.now ≡ entries = c.deref-3.ensures.0 ∙ c.entries-entries.ensures in
     let all = written-then c.push_verdict.ensures.text c.push.ensures in
-    let page = written-shows all c.new-page.ensures (omega (arith, length-append {A = ℕ}, c.push_verdict.ensures.short)) in
+    let page = written-shows all c.new-verdict.ensures (omega (arith, length-append {A = ℕ}, c.push_verdict.ensures.short))
+    (shows-eq c.deref-4.ensures.0 c.page_of-2.ensures) in
     shows-eq (sym (rule-verdict n entries ts c.in-Some.ensures.some.0))
     (rw (c.examine-answer.ensures, first, second, third) at page)

@@ -2,11 +2,11 @@
 use mathlib.Core.Path.{ap, ◌∙◌}
 use Rattle.reader.proofs.Passed.{passed, passed-first}
 use Rattle.expr_cost.specs.Answers.{costing_of}
-use Rattle.expr_cost.proofs.TreeCosts.{costing-over, costing-walked}
+use Rattle.expr_cost.proofs.TreeCosts.{costing-many, costing-walked}
 use Rattle.expr_cost.proofs.compute_cost.Goals as goal
 
 pub returns-in_err-flags : goal.returns-in_err-flags
-returns-in_err-flags c = ap costing_of (passed c.from_residual.ensures.1) ∙ costing-over _ _ c.in_err-flags.ensures
+returns-in_err-flags c = ap costing_of (passed c.from_residual.ensures.1) ∙ costing-many _ _ c.in_err-flags.ensures
 
 pub returns-in_err-seen : goal.returns-in_err-seen
 returns-in_err-seen c =

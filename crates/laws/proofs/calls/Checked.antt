@@ -1,8 +1,8 @@
 -- The rows that several calls share, and those of the evaluation for 64 stars, one by one: what a call answers where a row refuses, and that it goes
 -- on where none does.
 -- It rests on the definitions of rules' Calls and on steps of outcomes (Outcome).
---   table-complete                               == past the rows 1 and 2
---   coefficients-short, -stray, -clean           == rows 3 and 4, and past them
+--   table-flags, -short, -complete               == rows 1 and 2, and past them
+--   coefficients-flags, -short, -stray, -clean   == rows 1, 3 and 4, and past them
 --   coefficients-then                            == a step after these rows is a step after what comes behind them
 --   coefficients-lower                           == a lower limit of flags is one row more
 --   room-short, room-enough                      == row 5, and past it
@@ -14,22 +14,34 @@ use Prim.Native.Nat.{ℕ, ◌^◌, ◌≤◌, ◌<◌}
 use native.Mathlib.Omega.{arith}
 use lib.Dec.{ltb}
 use lib.ListN.{length}
-use borrow.Author.Tests.{ltb-false, lt-ltb, le-ltb, le-leb}
+use borrow.Author.Tests.{ltb-false, lt-ltb, le-ltb, lt-leb, le-leb}
 use Rattle.rules.specs.Calls.{with_table, with_coefficients, with_room, evaluate_stars}
 use Rattle.rules.specs.Coefficient.{word_count, stray}
-use Rattle.rules.specs.Limits.{rule_flags, too_many_flags, short_coefficients, stray_coefficient, short_output, short_stars}
+use Rattle.rules.specs.Limits.{rule_flags, too_many_flags, short_table, short_coefficients, stray_coefficient, short_output, short_stars}
 use Rattle.rules.specs.Machine.{made}
 use Rattle.rules.specs.Outcome.{Outcome, gives, refuses, refuse, ◌then◌}
 use Rattle.rules.specs.Stars.{star_values}
 use Rattle.laws.proofs.calls.Outcome.{refuse-then}
 
 module _ {A : Type 0} (limit n : ℕ) (table : List ℕ) (rest : Outcome A) where
+  pub table-flags : limit < n → with_table limit n table rest ≡ refuses too_many_flags 0
+  unfolding with_table
+  table-flags h = rw (lt-ltb limit n h)
+
   module _ (few : n ≤ limit) where
+    pub table-short : length table < 2 ^ n → with_table limit n table rest ≡ refuses short_table 0
+    unfolding with_table
+    table-short h = rw (le-ltb limit n few, lt-leb (2 ^ n) (length table) h)
+
     pub table-complete : 2 ^ n ≤ length table → with_table limit n table rest ≡ rest
     unfolding with_table
     table-complete h = rw (le-ltb limit n few, le-leb (2 ^ n) (length table) h)
 
 module _ {A : Type 0} (limit n : ℕ) (ws : List ℕ) (rest : Outcome A) where
+  pub coefficients-flags : limit < n → with_coefficients limit n ws rest ≡ refuses too_many_flags 0
+  unfolding with_coefficients
+  coefficients-flags h = rw (lt-ltb limit n h)
+
   module _ (few : n ≤ limit) where
     pub coefficients-short : length ws < word_count n → with_coefficients limit n ws rest ≡ refuses short_coefficients 0
     unfolding with_coefficients

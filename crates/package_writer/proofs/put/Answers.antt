@@ -42,9 +42,9 @@ returns c =
     let k = 13 + length rule.expression - 13 in
     let after : List ℕ =
     let m = c.copy_from_slice.new.self ++ drop 13 out in
-    take 13 m ++ (c.copy_from_slice-2.new.self ++ drop k (drop 13 m)) in
+    take 13 m ++ (c.put_all.new.out ++ drop k (drop 13 m)) in
     let stored : after ≡ sets out 0 l =
-    rw (is, c.copy_from_slice-2.ensures.after) (stored-parts out head rule.expression k (omega arith) (omega arith)
+    rw (is, c.put_all.ensures) (stored-parts out head rule.expression k (omega arith) (omega arith)
     ∙ ap (sets out 0) (sym (rule_bytes-header rule))) in
     let both = left-gives out after l _ _ enough (length-rule_bytes rule) (omega arith) stored in
     record { answer = both.0; lent = both.1 }

@@ -4,6 +4,7 @@ use mathlib.Core.Path.{◌≡◌, sym, ap, ◌∙◌, subst}
 use Prim.Native.Nat.{ℕ}
 use native.Mathlib.Numerals.{add-one}
 use native.Mathlib.Omega.{arith}
+use lib.Bits.{and_zero_r, or_zero_r}
 use Rattle.bits.proofs.Sets.{without_zero}
 use Rattle.mask_words.proofs.Entries.{bit-flag}
 use Rattle.form.proofs.WordOperations.{monomials-same, monomials-word}
@@ -28,6 +29,10 @@ returns c =
     let w = c.args.form.word in
     let l = c.loop-flag in
     let all : l.flag ≡ 6 = omega arith in
+    let shared =
     c.monomials-2.ensures ∙ ap monomials c.of_coefficients.ensures ∙ sym (monomials-word l.found.twice)
     ∙ shared-word w l.found.once l.found.twice (omega arith)
-    (subst (λ (k : ℕ). Reached (without_zero 64 w) k l.found.once l.found.twice) all l.invariant)
+    (subst (λ (k : ℕ). Reached (without_zero 64 w) k l.found.once l.found.twice) all l.invariant) in
+    let none = and_zero_r l.found.twice in
+    let same = or_zero_r c.monomials-2.result.word in
+    cc

@@ -1,6 +1,6 @@
 -- `anf_transform::between::along_flag` meets its contract: a pair of halves is in the words, and when it is joined, one pair more is (AcrossWords).
 use Rattle.std.proofs.Common.{◌≡◌, ℕ, ◌-◌, ◌*◌, ◌^◌, ◌∙◌, ap, sym, arith, length}
-use Rattle.anf_transform.proofs.AcrossWords.{pairs-room, pairs-all, joined-next}
+use Rattle.anf_transform.proofs.AcrossWords.{pairs-room, pairs-all, joined-part}
 use Rattle.anf_transform.proofs.between.along_flag.Goals as goal
 
 pub slice_bounds-join_halves-end : goal.slice_bounds-join_halves-end
@@ -15,7 +15,7 @@ loop-i-preserved c =
     let room = pairs-room c.args.j c.args.count (omega arith) l.i (omega arith) in (
       l.invariant.0,
       l.invariant.1,
-      joined-next c.args.j l.i _ _ _ c.args.words.now l.words c.join_halves.new.words l.invariant.2 base l.invariant.0 (omega arith)
+      joined-part c.args.j l.i _ _ _ c.args.words.now l.words c.join_halves.new.words l.invariant.2 base l.invariant.0 (omega arith)
           (omega (arith, room, base)) c.join_halves.ensures,
     )
 

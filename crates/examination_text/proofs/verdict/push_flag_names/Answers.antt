@@ -8,7 +8,7 @@ use Rattle.bits.proofs.Places.{places-zero}
 use Rattle.rules.specs.Ascii.{ascii}
 use Rattle.text.proofs.Shown.{written-eq, written-none, written-then}
 use Rattle.examination_text.specs.Verdict.{named, flag_names}
-use Rattle.examination_text.proofs.Flags.{named-first, names-some}
+use Rattle.examination_text.proofs.Flags.{named-first, names-word}
 use Rattle.examination_text.proofs.verdict.push_flag_names.Goals as goal
 
 pub returns-then-word-eq0 : goal.returns-then-word-eq0
@@ -23,7 +23,7 @@ loop-flag-init c =
       tt,
       tt,
       λ new w. written-eq (ap (λ (o : Ones). named (places 64 o.left)) e
-          ∙ names-some flags (omega (arith, c.word.ensures, c.word.type_inv)) (λ z. c.if-word-eq0.false (c.word.ensures ∙ z))) w,
+          ∙ names-word flags (omega (arith, c.word.ensures, c.word.type_inv)) (λ z. c.if-word-eq0.false (c.word.ensures ∙ z))) w,
     )
 
 pub loop-flag-preserved : goal.loop-flag-preserved
